@@ -1,0 +1,29 @@
+-- What is read of places that fit a type fits it.
+use Rattle.std.proofs.Common.{◌≡◌, ℕ, zero, suc, ◌<◌, ◌^◌, Bool, true, false, ◌&&◌, List, [], ◌∷◌, Option, Some, None, length, map, refl, arith, subst, sym}
+use Rattle.std.proofs.lemmas.List.{length-map}
+use Rattle.px_column.specs.Datum.{Slot}
+use Rattle.px_column.specs.Kind.{Kind, slot_fits, slots_fit}
+use Rattle.px_column.specs.Series.{slot_at, IsColumn}
+use Rattle.px_column.specs.Column.{taken_at}
+
+both : (a b : Bool) → (a && b) ≡ true → (a ≡ true) × (b ≡ true)
+both true b h = (refl, h)
+both false b h = cc
+
+pub fits_at : (k : Kind) (xs : List Slot) (i : ℕ) → slots_fit k xs ≡ true → slot_fits k (slot_at xs i) ≡ true
+fits_at k [] i h = refl
+fits_at k (x ∷ xs) zero h = (both (slot_fits k x) (slots_fit k xs) h).0
+fits_at k (x ∷ xs) (suc i) h = fits_at k xs i (both (slot_fits k x) (slots_fit k xs) h).1
+
+fits_taken_at : (k : Kind) (xs : List Slot) (i : Option ℕ) → slots_fit k xs ≡ true → slot_fits k (taken_at xs i) ≡ true
+fits_taken_at k xs None h = refl
+fits_taken_at k xs (Some i) h = fits_at k xs i h
+
+pub fits_taken : (k : Kind) (xs : List Slot) (rows : List (Option ℕ)) → slots_fit k xs ≡ true → slots_fit k (map (taken_at xs) rows) ≡ true
+fits_taken k xs [] h = refl
+fits_taken k xs (r ∷ rs) h = λ i. fits_taken_at k xs r h i && fits_taken k xs rs h i
+
+-- a column of taken rows
+pub taken_column : (k : Kind) (xs ys : List Slot) (rows : List (Option ℕ)) → IsColumn k xs → length rows < 2 ^ 32 → ys ≡ map (taken_at xs) rows → IsColumn k ys
+taken_column k xs ys rows c n e =
+    subst (IsColumn k) (sym e) (record { fit = fits_taken k xs rows c.fit; short = rw (length-map rows (taken_at xs)) n })

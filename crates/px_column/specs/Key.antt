@@ -1,0 +1,12 @@
+-- The key of a row: what some columns hold there.
+use Rattle.std.specs.Prelude.{ℕ, List, map}
+use Rattle.std.specs.List.{range_with_len}
+use Rattle.px_column.specs.Datum.{Slot}
+use Rattle.px_column.specs.Series.{Series, slot_at}
+
+abbrev pub key_at : List Series → ℕ → List Slot
+key_at by row = map (λ s. slot_at s.slots row) by
+
+-- the keys of the first n rows
+abbrev pub keys_of : List Series → ℕ → List (List Slot)
+keys_of by n = map (key_at by) (range_with_len 0 n)

@@ -1,0 +1,14 @@
+pub mod Datum
+pub mod DatumCode
+pub mod Equality
+pub mod Hashing
+pub mod Decided
+pub mod Kind
+pub mod KindView
+pub mod Series
+pub mod View
+pub mod LentView
+pub mod Falls
+pub mod Key
+pub mod Answer
+pub mod Column

@@ -1,0 +1,26 @@
+-- What contracts see of a column: its name, its type and its places.
+use Rattle.std.specs.Prelude.{◌≡◌, ℕ, ◌^◌, ◌<◌, true, List, length, Option, refl, slice_get}
+use Rattle.std.specs.Option.{option_and_then}
+use Rattle.std.specs.Coded.{Coded, code_by, coded×, coded_ℕ, coded_list}
+use Rattle.px_column.specs.Datum.{Slot}
+use Rattle.px_column.specs.DatumCode.{coded_slots}
+use Rattle.px_column.specs.Kind.{Kind, coded_kind, slots_fit}
+
+pub record Series : Type 0 where
+  pub name : List ℕ
+  pub kind : Kind
+  pub slots : List Slot
+
+-- what stands at a row, with nothing outside
+abbrev pub slot_at : List Slot → ℕ → Slot
+slot_at xs i = option_and_then (λ s. s) (slice_get xs i)
+
+-- each place fits the type, and there are fewer than 2^32 of them
+pub record IsColumn (kind : Kind) (xs : List Slot) : Type 0 where
+  pub fit : slots_fit kind xs ≡ true
+  pub short : length xs < 2 ^ 32
+
+abbrev pub coded_series : Coded Series
+coded_series =
+    code_by (List ℕ × (Kind × List Slot)) (coded× (coded_list coded_ℕ) (coded× coded_kind coded_slots))
+    (λ s. (s.name, (s.kind, s.slots))) (λ p. record { name = p.0; kind = p.1.0; slots = p.1.1 }) (λ _. refl)

@@ -1,0 +1,20 @@
+//! Columns of typed, nullable values, and the kernels over them.
+#![tactic(auto)]
+
+mod column;
+mod data_type;
+mod error;
+mod name;
+mod row_key;
+mod steps;
+mod value;
+mod value_ref;
+
+pub use column::Column;
+pub use data_type::DataType;
+pub use error::{ComputeWhy, InvalidWhy, Px, PxError};
+pub use name::{ByteString, Name};
+pub use row_key::RowKey;
+pub use steps::Steps;
+pub use value::{Value, Values};
+pub use value_ref::ValueRef;
