@@ -12,3 +12,5 @@ pub mod Falls
 pub mod Key
 pub mod Answer
 pub mod Column
+pub mod Sum
+pub mod Reduction

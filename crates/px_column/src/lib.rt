@@ -4,6 +4,8 @@
 mod column;
 mod data_type;
 mod error;
+pub mod kernels;
+mod method;
 mod name;
 mod row_key;
 mod steps;
@@ -13,6 +15,7 @@ mod value_ref;
 pub use column::Column;
 pub use data_type::DataType;
 pub use error::{ComputeWhy, InvalidWhy, Px, PxError};
+pub use method::GroupByMethod;
 pub use name::{ByteString, Name};
 pub use row_key::RowKey;
 pub use steps::Steps;

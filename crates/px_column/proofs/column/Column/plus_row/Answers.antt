@@ -1,0 +1,11 @@
+use Rattle.std.proofs.Common.{arith}
+use Rattle.std.proofs.lemmas.Int.{ints}
+use Rattle.px_column.specs.LentView.{slot_of_ref}
+use Rattle.px_column.specs.Sum.{number_of, IsWithin}
+use Rattle.px_column.proofs.Summing.{number_within}
+use Rattle.px_column.proofs.column.Column.plus_row.Goals as goal
+
+pub returns-clause-within : goal.returns-clause-within
+returns-clause-within c =
+    let one : IsWithin 1 (number_of (slot_of_ref c.slot.result)) = number_within c.args.self.now.kind _ c.slot.ensures.fits in
+    record { low = omega (arith, ints, c.number.ensures); high = omega (arith, ints, c.number.ensures) }

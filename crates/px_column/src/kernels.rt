@@ -1,0 +1,3 @@
+//! The kernels: what is computed from whole columns.
+
+pub mod sum;

@@ -1,0 +1,20 @@
+-- The value of an expression on a frame: one value, or one for each of some rows.
+use Rattle.std.specs.Prelude.{ℕ, List, [], ◌∷◌, Some, length}
+use Rattle.px_column.specs.Datum.{list, Slot, slots}
+
+pub data Cell : Type 0 where
+  unit : Slot → Cell
+  rows : List Slot → Cell
+
+-- a unit counts as one row
+abbrev pub list_of : Cell → List Slot
+list_of (unit s) = s ∷ []
+list_of (rows xs) = xs
+
+-- the unit's value, or the rows as one list
+abbrev pub value_of_cell : Cell → Slot
+value_of_cell (unit s) = s
+value_of_cell (rows xs) = Some (list (slots xs))
+
+abbrev pub count_of : Cell → ℕ
+count_of cell = length (list_of cell)

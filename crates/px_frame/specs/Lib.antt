@@ -1,0 +1,4 @@
+pub mod Frame
+pub mod Cell
+pub mod Parts
+pub mod Groups
