@@ -1,9 +1,12 @@
 -- What contracts see of a frame: its columns, with distinct names and of one height.
-use Rattle.std.specs.Prelude.{◌≡◌, ℕ, ◌==◌, Bool, true, false, ◌&&◌, not, List, [], ◌∷◌, Option, Some, None, length, map, find, if◌then◌else◌}
+use Rattle.std.specs.Prelude.{◌≡◌, ℕ, ◌==◌, Bool, true, List, [], ◌∷◌, ◌++◌, Option, Some, None, Result, Ok, Err, length, map, find, nat_lt, if◌then◌else◌}
 use Rattle.std.specs.List.{list_any, list_all}
 use lib.Pointwise.{pointwise}
 use Rattle.px_column.specs.Datum.{Slot}
+use Rattle.px_column.specs.Column.{taken_at, all_within}
 use Rattle.px_column.specs.Series.{Series, slot_at}
+use Rattle.px_column.specs.declared.error.PxError.{PxError}
+use Rattle.px_column.specs.declared.error.PxError.TheVariants.{Duplicate, ShapeMismatch}
 
 abbrev pub name_eq : List ℕ → List ℕ → Bool
 name_eq = pointwise ◌==◌
@@ -26,18 +29,46 @@ height_of (s ∷ frame) = length s.slots
 -- the first name that stands among those seen or earlier in the list
 abbrev pub first_repeat : List (List ℕ) → List (List ℕ) → Option (List ℕ)
 first_repeat seen [] = None
-first_repeat seen (n ∷ ns) = if list_any (name_eq n) seen then Some n else first_repeat (n ∷ seen) ns
+first_repeat seen (n ∷ ns) = if list_any (name_eq n) seen then Some n else first_repeat (seen ++ n ∷ []) ns
 
 abbrev pub has_height : ℕ → Series → Bool
 has_height n s = length s.slots == n
 
+abbrev pub all_have_height : ℕ → List Series → Bool
+all_have_height n frame = list_all (has_height n) frame
+
 -- all columns are as long as the first
 abbrev pub is_even : List Series → Bool
-is_even frame = list_all (has_height (height_of frame)) frame
+is_even frame = all_have_height (height_of frame) frame
+
+-- names that are distinct, and one height
+pub record IsFrame (frame : List Series) : Type 0 where
+  pub distinct : first_repeat [] (names_of frame) ≡ None
+  pub even : is_even frame ≡ true
+
+-- a value, unless a name stands twice
+abbrev pub unless_repeated : {X : Type 0} → Option (List ℕ) → Result X PxError → Result X PxError
+unless_repeated None made = made
+unless_repeated (Some n) made = Err (Duplicate n)
+
+-- the frame of some columns; a name that stands twice is refused before lengths that differ
+abbrev pub frame_of : List Series → Result (List Series) PxError
+frame_of columns = unless_repeated (first_repeat [] (names_of columns)) (if is_even columns then Ok columns else Err ShapeMismatch)
+
+abbrev pub are_below : ℕ → List ℕ → Bool
+are_below n rows = list_all (λ r. nat_lt r n) rows
 
 -- what stands at these rows, in this order
 abbrev pub slots_at : List Slot → List ℕ → List Slot
 slots_at xs rows = map (slot_at xs) rows
+
+-- the rows that are asked for stand in each of the columns
+abbrev pub are_in_all : List (Option ℕ) → List Series → Bool
+are_in_all rows frame = list_all (λ s. all_within (length s.slots) rows) frame
+
+-- a column's rows as they are asked for
+abbrev pub taken_series : List (Option ℕ) → Series → Series
+taken_series rows s = record s { slots = map (taken_at s.slots) rows }
 
 -- a column's rows, in this order
 abbrev pub series_at : List ℕ → Series → Series

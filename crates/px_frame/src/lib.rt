@@ -2,9 +2,5 @@
 #![tactic(auto)]
 
 mod frame;
-mod group_by;
-mod groups;
 
 pub use frame::DataFrame;
-pub use group_by::{group_by, key_rows};
-pub use groups::{GroupPositions, GroupsIndicator, GroupsType, IdxVec};

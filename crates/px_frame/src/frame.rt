@@ -1,0 +1,163 @@
+//! Frames: columns with distinct names and of one height.
+ghost use Rattle.std.specs.Prelude.{◌≡◌, ◌<◌, ◌^◌, ◌++◌, ◌∷◌, [], Ok, Err, OnOk, true, List, map, option_map, length, vec_len, if◌then◌else◌};
+ghost use Rattle.std.specs.List.{list_any};
+ghost use Rattle.px_column.specs.Answer.{Answers, AnswersBy};
+ghost use Rattle.px_column.specs.Column.{all_within};
+ghost use Rattle.px_column.specs.declared.error.PxError.TheVariants.{Duplicate};
+ghost use Rattle.px_frame.specs.Frame.{look, height_of, frame_of, first_repeat, all_have_height, names_of, name_eq, unless_repeated, subframe, are_below, are_in_all, taken_series};
+
+use indexmap::IndexSet;
+use px_column::{Column, Name, Px, PxError};
+use std::alloc::Global;
+use std::marker::Model;
+
+/// Columns with distinct names and of one height (polars `DataFrame`), seen as their list.
+#[derive(Drop)]
+pub struct DataFrame {
+    columns: Vec<Column>,
+    // The columns' names in their order, by which a column is found.
+    names: IndexSet<Name>,
+}
+
+impl Model for DataFrame {
+    ghost use Rattle.std.specs.Prelude.{List};
+    ghost use Rattle.std.specs.Coded.{coded_list};
+    ghost use Rattle.px_column.specs.Series.{Series, coded_series};
+
+    ghost Value = { List Series };
+
+    ghost coded = { coded_list coded_series };
+
+    ghost use Rattle.std.specs.Prelude.{◌≡◌};
+    ghost use Rattle.px_frame.specs.Frame.{names_of, IsFrame};
+
+    ghost view = { λ f. f.columns.items };
+
+    ghost invariant = { λ f. (f.names.keys ≡ names_of f.columns.items) × IsFrame f.columns.items };
+}
+
+/// One more name, unless it is there already.
+fn add_name(alloc: Global, names: &mut IndexSet<Name>, name: &Name) -> Px<()>
+    ensures answer { Answers result (if list_any (name_eq name.now) names.old.keys then Err (Duplicate name.now) else Ok tt) }
+    ensures added { OnOk result (names.new.keys ≡ names.old.keys ++ name.now ∷ []) }
+{
+    let (_, is_new) = names.insert_full(name.try_clone(alloc)?)?;
+    if is_new {
+        Ok(())
+    } else {
+        Err(PxError::Duplicate(name.try_clone(alloc)?))
+    }
+}
+
+fn distinct_names(alloc: Global, columns: &[Column]) -> Px<IndexSet<Name>>
+    ensures { AnswersBy (λ s. s.keys) result (unless_repeated (first_repeat [] (names_of columns.now)) (Ok (names_of columns.now))) }
+{
+    let mut names = IndexSet::new(alloc);
+    for column in columns {
+        add_name(alloc, &mut names, column.name())?;
+    }
+    Ok(names)
+}
+
+fn height(columns: &[Column]) -> u32
+    ensures { result ≡ height_of columns.now }
+{
+    match columns.first() {
+        None => 0,
+        Some(column) => column.len(),
+    }
+}
+
+fn all_have_height(columns: &[Column], height: u32) -> bool
+    ensures { result ≡ all_have_height height columns.now }
+{
+    for column in columns {
+        if column.len() != height {
+            return false;
+        }
+    }
+    true
+}
+
+impl DataFrame {
+    ghost use Rattle.px_frame.specs.Frame.{IsFrame};
+
+    /// The frame of these columns; `Duplicate` with the first name that stands earlier, then
+    /// `ShapeMismatch` where lengths differ (polars `DataFrame::new`).
+    pub fn new(alloc: Global, columns: Vec<Column>) -> Px<DataFrame>
+        ensures { Answers result (frame_of columns.items) }
+    {
+        let names = distinct_names(alloc, &columns)?;
+        if all_have_height(&columns, height(&columns)) {
+            Ok(DataFrame { columns, names })
+        } else {
+            Err(PxError::ShapeMismatch)
+        }
+    }
+
+    /// The column of a name, `None` where there is none.
+    pub fn column(&self, name: &Name) -> Option<&Column>
+        ensures { option_map (λ c. c.now) result ≡ look name.now self.now }
+    {
+        match self.names.get_index_of(name) {
+            None => None,
+            Some(place) => Some(&self.columns[place]),
+        }
+    }
+
+    /// The columns in their order.
+    pub fn get_columns(&self) -> &[Column]
+        ensures columns { result.now ≡ self.now }
+        ensures frame { IsFrame self.now }
+    {
+        &self.columns
+    }
+
+    /// The number of rows, 0 without columns.
+    pub fn height(&self) -> u32
+        ensures { result ≡ height_of self.now }
+    {
+        height(&self.columns)
+    }
+
+    /// These rows in this order, each below the height (polars `take_unchecked`).
+    pub fn take_rows(&self, alloc: Global, rows: &[u32]) -> Px<DataFrame>
+        requires few { length rows.now < 2 ^ 32 }
+        requires below { are_below (height_of self.now) rows.now ≡ true }
+        ensures { Answers result (Ok (subframe self.now rows.now)) }
+    {
+        let indices = all_some(alloc, rows)?;
+        DataFrame::new(alloc, take_columns(alloc, &self.columns, &indices)?)
+    }
+}
+
+fn take_column(alloc: Global, column: &Column, indices: &[Option<u32>]) -> Px<Column>
+    requires few { length indices.now < 2 ^ 32 }
+    requires within { all_within (length column.now.slots) indices.now ≡ true }
+    ensures { Answers result (Ok (taken_series indices.now column.now)) }
+{
+    column.take(alloc, indices)
+}
+
+/// These rows of each column.
+fn take_columns(alloc: Global, columns: &[Column], indices: &[Option<u32>]) -> Px<Vec<Column>>
+    requires few { length indices.now < 2 ^ 32 }
+    requires within { are_in_all indices.now columns.now ≡ true }
+    ensures { AnswersBy (λ v. v.items) result (Ok (map (taken_series indices.now) columns.now)) }
+{
+    let mut taken = Vec::with_capacity(alloc, columns.len())?;
+    for column in columns {
+        taken.push(take_column(alloc, column, indices)?)?;
+    }
+    Ok(taken)
+}
+
+fn all_some(alloc: Global, rows: &[u32]) -> Px<Vec<Option<u32>>>
+    ensures { AnswersBy (λ v. v.items) result (Ok (map Some rows.now)) }
+{
+    let mut indices = Vec::with_capacity(alloc, rows.len())?;
+    for row in rows {
+        indices.push(Some(*row))?;
+    }
+    Ok(indices)
+}
