@@ -1,5 +1,5 @@
 -- Running sums stay within bounds that 128 bits hold.
-use Rattle.std.proofs.Common.{◌≡◌, ℕ, zero, suc, ◌+◌, ◌*◌, ◌^◌, ◌<◌, ◌≤◌, ℤ, pos, negsuc, ◌+ℤ◌, ◌≤ℤ◌, neg_ℤ, true, Bool, List, [], ◌∷◌, ◌++◌, Some, None, map, fold, take, length, refl, sym, ◌∙◌, ap, arith, nat_lt, add-one}
+use Rattle.std.proofs.Common.{◌≡◌, ℕ, zero, suc, ◌+◌, ◌^◌, ◌<◌, ◌≤◌, ℤ, pos, negsuc, ◌+ℤ◌, true, List, [], ◌∷◌, ◌++◌, Some, None, map, fold, take, length, refl, ◌∙◌, ap, arith, add-one}
 use Rattle.std.proofs.lemmas.Bool.Decides.{nat_tests}
 use Rattle.std.proofs.lemmas.Int.{ints}
 use Rattle.px_column.specs.Datum.{boolean, integer, text, bytes, list, Slot}

@@ -1,5 +1,5 @@
 -- What the calls of a column answer.
-use Rattle.std.specs.Prelude.{ℕ, Bool, ◌&&◌, true, List, Option, Some, None, Result, Ok, Err, length, map, nat_lt, if◌then◌else◌, is_none, count_by}
+use Rattle.std.specs.Prelude.{ℕ, Bool, true, List, Option, Some, None, Result, Ok, Err, length, map, nat_lt, if◌then◌else◌, is_none, count_by}
 use Rattle.std.specs.List.{list_all}
 use Rattle.px_column.specs.Datum.{Slot}
 use Rattle.px_column.specs.Kind.{Kind, slots_fit}

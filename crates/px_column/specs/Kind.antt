@@ -72,6 +72,10 @@ coded_kind = code_by ℕ coded_ℕ kind_number kind_back kind_round
 abbrev pub kind_eq : Kind → Kind → Bool
 kind_eq a b = kind_number a == kind_number b
 
+abbrev pub is_list_kind : Kind → Bool
+is_list_kind (lists k) = true
+is_list_kind _ = false
+
 -- from -n to n - 1
 abbrev pub is_signed : ℕ → ℤ → Bool
 is_signed n (pos m) = nat_lt m n

@@ -1,5 +1,5 @@
 -- What a value of the program stands for.
-use Rattle.std.specs.Prelude.{List, Option, Some, None, map, option_map}
+use Rattle.std.specs.Prelude.{List, Option, Some, None, map}
 use Rattle.px_column.specs.Datum as d
 use Rattle.px_column.specs.Datum.{Datum, Slot, slots}
 use Rattle.px_column.specs.declared.value.Value.{Value}

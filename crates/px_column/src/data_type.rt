@@ -1,7 +1,7 @@
 //! The types of columns.
 ghost use Rattle.std.specs.Prelude.{◌≡◌, Ok};
 ghost use Rattle.px_column.specs.Answer.{AnswersBy};
-ghost use Rattle.px_column.specs.Kind.{kind_eq};
+ghost use Rattle.px_column.specs.Kind.{is_list_kind};
 ghost use Rattle.px_column.specs.KindView.{kind_of};
 
 use crate::error::Px;
@@ -26,6 +26,13 @@ pub enum DataType {
 }
 
 impl DataType {
+    /// Whether it is a type of lists.
+    pub fn is_list(&self) -> bool
+        ensures { result ≡ is_list_kind (kind_of self.now) }
+    {
+        matches!(self, DataType::List(_))
+    }
+
     /// An equal type.
     pub fn try_clone(&self, alloc: Global) -> Px<DataType>
         ensures { AnswersBy kind_of result (Ok (kind_of self.now)) }

@@ -1,2 +1,9 @@
 pub mod Looking
 pub mod Rows
+pub mod Entering
+pub mod Started
+pub mod Bounds
+pub mod Keys
+pub mod Built
+pub mod Each
+pub mod Made

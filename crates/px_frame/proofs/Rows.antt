@@ -1,6 +1,5 @@
 -- The frame of some rows is a frame.
-use Rattle.std.proofs.Common.{◌≡◌, ℕ, Bool, true, false, ◌&&◌, List, [], ◌∷◌, Some, None, Result, Ok, Err, length, map, refl, sym, ◌∙◌, ap, nat_lt, if◌then◌else◌, arith}
-use Rattle.std.specs.List.{list_all}
+use Rattle.std.proofs.Common.{◌≡◌, ℕ, Bool, true, false, ◌&&◌, List, [], ◌∷◌, Some, Result, Ok, Err, length, map, refl, ◌∙◌, ap, nat_lt, if◌then◌else◌, arith}
 use Rattle.std.proofs.lemmas.Bool.Decides.{nat_tests}
 use Rattle.std.proofs.lemmas.List.{length-map}
 use Rattle.px_column.specs.Datum.{Slot}
@@ -8,7 +7,7 @@ use Rattle.px_column.specs.Column.{taken_at, all_within}
 use Rattle.px_column.specs.Series.{Series, slot_at}
 use Rattle.px_column.specs.declared.error.PxError.{PxError}
 use Rattle.px_column.specs.declared.error.PxError.TheVariants.{ShapeMismatch}
-use Rattle.px_frame.specs.Frame.{names_of, height_of, all_have_height, has_height, is_even, IsFrame, frame_of, first_repeat, unless_repeated, are_below, are_in_all, taken_series, series_at, slots_at, subframe}
+use Rattle.px_frame.specs.Frame.{names_of, all_have_height, has_height, is_even, IsFrame, frame_of, first_repeat, unless_repeated, are_below, are_in_all, taken_series, series_at, slots_at, subframe}
 
 both : (a b : Bool) → (a && b) ≡ true → (a ≡ true) × (b ≡ true)
 both true b h = (refl, h)

@@ -68,7 +68,7 @@ fn height(columns: &[Column]) -> u32
     }
 }
 
-fn all_have_height(columns: &[Column], height: u32) -> bool
+pub(crate) fn all_have_height(columns: &[Column], height: u32) -> bool
     ensures { result ≡ all_have_height height columns.now }
 {
     for column in columns {
@@ -140,7 +140,11 @@ fn take_column(alloc: Global, column: &Column, indices: &[Option<u32>]) -> Px<Co
 }
 
 /// These rows of each column.
-fn take_columns(alloc: Global, columns: &[Column], indices: &[Option<u32>]) -> Px<Vec<Column>>
+pub(crate) fn take_columns(
+    alloc: Global,
+    columns: &[Column],
+    indices: &[Option<u32>],
+) -> Px<Vec<Column>>
     requires few { length indices.now < 2 ^ 32 }
     requires within { are_in_all indices.now columns.now ≡ true }
     ensures { AnswersBy (λ v. v.items) result (Ok (map (taken_series indices.now) columns.now)) }

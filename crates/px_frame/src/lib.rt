@@ -1,6 +1,12 @@
 //! Frames of columns, groups of rows by equal keys, and the kernels over groups.
 #![tactic(auto)]
 
+mod aggregate;
 mod frame;
+mod grouping;
+mod groups;
 
+pub use aggregate::{agg_sum, key_rows};
 pub use frame::DataFrame;
+pub use grouping::group_by;
+pub use groups::{GroupPositions, GroupsIndicator, GroupsType, IdxVec};

@@ -28,9 +28,11 @@ impl DataType {
     {
         match self {
             DataType::Boolean | DataType::UInt32 => Some(DataType::UInt32),
-            DataType::Int8 | DataType::Int16 | DataType::UInt8 | DataType::UInt16 | DataType::Int64 => {
-                Some(DataType::Int64)
-            }
+            DataType::Int8
+            | DataType::Int16
+            | DataType::UInt8
+            | DataType::UInt16
+            | DataType::Int64 => { Some(DataType::Int64) }
             DataType::Int32 => Some(DataType::Int32),
             DataType::UInt64 => Some(DataType::UInt64),
             _ => None,

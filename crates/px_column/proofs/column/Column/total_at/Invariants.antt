@@ -1,4 +1,4 @@
-use Rattle.std.proofs.Common.{◌≡◌, pos, fold, map, take}
+use Rattle.std.proofs.Common.{◌≡◌, map, take}
 use Rattle.px_column.specs.Series.{slot_at}
 use Rattle.px_column.specs.Sum.{total, IsWithin}
 use Rattle.px_column.proofs.column.Column.total_at.Given as goal

@@ -1,6 +1,6 @@
 use Rattle.std.proofs.Common.{◌≡◌, ◌∙◌, ap, arith, rules, w32, w64}
 use Rattle.std.specs.Prelude.{FitsSigned}
-use Rattle.std.specs.Int.{w128, int_wrap, cast_signed, cast_unsigned, int_rem_euclid}
+use Rattle.std.specs.Int.{w128, int_wrap, cast_signed, cast_unsigned}
 use Rattle.std.proofs.lemmas.Int.{ints}
 use Rattle.px_column.specs.Datum.{integer}
 use Rattle.px_column.proofs.kernels.sum.wrapped_sum.Goals as goal

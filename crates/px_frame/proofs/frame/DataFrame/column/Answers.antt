@@ -1,4 +1,4 @@
-use Rattle.std.proofs.Common.{◌≡◌, ◌∙◌, ap, arith, length}
+use Rattle.std.proofs.Common.{◌∙◌, ap, arith}
 use Rattle.std.specs.List.{position}
 use Rattle.px_frame.specs.Frame.{names_of, name_eq}
 use Rattle.px_frame.proofs.Looking.{looked_up, not_looked_up, some_found, length_names}
