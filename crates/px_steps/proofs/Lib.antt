@@ -1,0 +1,5 @@
+pub mod Views
+pub mod Loop
+pub mod HasRead
+pub mod Taking
+pub mod Separated

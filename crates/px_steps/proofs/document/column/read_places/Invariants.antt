@@ -1,0 +1,11 @@
+use Rattle.std.proofs.Common.{◌≡◌, map, drop}
+use Rattle.serde_json.specs.View.{view}
+use Rattle.px_column.specs.View.{slots_of}
+use Rattle.px_steps.specs.Document.{place_of}
+use Rattle.px_steps.specs.Form.{each}
+use Rattle.px_steps.proofs.Loop.{with_front}
+use Rattle.px_steps.proofs.document.column.read_places.Given as goal
+
+-- what was read and what is left are all
+abbrev pub invariant-loop-value : goal.invariant-loop-value
+invariant-loop-value l = with_front (slots_of l.places.items) (each place_of (map view (drop l.value-index l.values))) ≡ each place_of (map view l.values)

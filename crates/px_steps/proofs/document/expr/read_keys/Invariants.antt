@@ -1,0 +1,11 @@
+use Rattle.std.proofs.Common.{◌≡◌, map, drop}
+use Rattle.serde_json.specs.View.{view}
+use Rattle.px_plan.specs.View.{tree}
+use Rattle.px_steps.specs.Document.{key_of}
+use Rattle.px_steps.specs.Form.{each}
+use Rattle.px_steps.proofs.Loop.{with_front}
+use Rattle.px_steps.proofs.document.expr.read_keys.Given as goal
+
+-- what was read and what is left are all
+abbrev pub invariant-loop-value : goal.invariant-loop-value
+invariant-loop-value l = with_front (map tree l.keys.items) (each key_of (map view (drop l.value-index l.values))) ≡ each key_of (map view l.values)

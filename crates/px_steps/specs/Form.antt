@@ -1,0 +1,62 @@
+-- How a document's data is taken apart, and how a reader's answer is told.
+use Rattle.std.specs.Prelude.{◌≡◌, ℕ, suc, ◌==◌, Bool, false, List, [], ◌∷◌, length, Option, Some, None, option_map, option_and_then, unwrap_or, if◌then◌else◌, Result, Ok, Err}
+use Rattle.serde_json.specs.Data.{Data, Items, no_items, item, Members, no_members, member}
+use Rattle.serde_json.specs.Find.{get, as_array, as_object}
+use Rattle.px_steps.specs.declared.document.fault.DocumentFault.{DocumentFault}
+use Rattle.px_steps.specs.declared.document.fault.DocumentFault.TheVariants.{BadDocument, OutOfMemory}
+
+-- what comes next, where there is a value
+infixl 10 ◌>>=◌
+abbrev pub ◌>>=◌ : {A B : Type 0} → Option A → (A → Option B) → Option B
+o >>= f = option_and_then f o
+
+-- the only item
+abbrev pub only : {A : Type 0} → List A → Option A
+only (x ∷ []) = Some x
+only _ = None
+
+-- each item read, where all of them can be
+abbrev pub each : {A B : Type 0} → (A → Option B) → List A → Option (List B)
+each f [] = Some []
+each f (x ∷ xs) = f x >>= λ y. option_map (λ ys. y ∷ ys) (each f xs)
+
+-- the items, as a list
+abbrev pub listed : Items → List Data
+listed no_items = []
+listed (item d ds) = d ∷ listed ds
+
+-- the items of an array
+abbrev pub items : Data → Option (List Data)
+items d = option_map listed (as_array d)
+
+-- how many members
+abbrev pub member_count : Members → ℕ
+member_count no_members = 0
+member_count (member k d ms) = suc (member_count ms)
+
+-- an object with n members
+abbrev pub has_members : ℕ → Data → Bool
+has_members n d = unwrap_or (option_map (λ ms. member_count ms == n) (as_object d)) false
+
+-- the values under exactly these keys, in this order: each is there, and nothing else
+abbrev pub fields : List (List ℕ) → Data → Option (List Data)
+fields keys d = if has_members (length keys) d then each (λ k. get k d) keys else None
+
+-- the value of an object whose only key is k
+abbrev pub field : List ℕ → Data → Option Data
+field k d = fields (k ∷ []) d >>= only
+
+-- there is nothing to read, or memory was wanting
+abbrev pub Misses : {Y : Type 0} → DocumentFault → Option Y → Type 0
+Misses BadDocument expected = expected ≡ None
+Misses OutOfMemory expected = Unit {0}
+
+-- what was read, seen by view, is what is expected, unless memory was wanting
+abbrev pub ReadsBy : {X Y : Type 0} → (X → Y) → Result X DocumentFault → Option Y → Type 0
+ReadsBy view (Ok x) expected = expected ≡ Some (view x)
+ReadsBy view (Err e) expected = Misses e expected
+
+-- the same, where the value read is its own view
+abbrev pub Reads : {X : Type 0} → Result X DocumentFault → Option X → Type 0
+Reads (Ok x) expected = expected ≡ Some x
+Reads (Err e) expected = Misses e expected

@@ -1,0 +1,10 @@
+pub mod Text
+pub mod Label
+pub mod Ends
+pub mod Memory
+pub mod Form
+pub mod Step
+pub mod Document
+pub mod Fault
+pub mod Plain
+pub mod Reply

@@ -1,0 +1,36 @@
+-- What is written for an input.
+use Rattle.std.specs.Prelude.{◌≡◌, ℕ, List, [], Option, Some, None}
+use Rattle.px_column.specs.Series.{Series}
+use Rattle.px_column.specs.declared.error.PxError.{PxError}
+use Rattle.px_frame.specs.Frame.{IsFrame, height_of}
+use Rattle.px_steps.specs.Document.{Doc, IsDocumentText}
+use Rattle.px_steps.specs.Label.{line_of, bad_document_line}
+use Rattle.px_steps.specs.Plain.{first_refusal, plain_on}
+use Rattle.px_steps.specs.Text.{text_of}
+
+-- the bytes say this document, and its columns are a frame: distinct names, one length
+pub record IsDocument (bytes : List ℕ) (doc : Doc) : Type 0 where
+  pub says : IsDocumentText bytes doc
+  pub frame : IsFrame doc.columns
+
+-- no step is refused, and the text is that of the frame which the steps make
+pub record IsResult (bytes text : List ℕ) : Type 0 where
+  pub doc : Doc
+  pub document : IsDocument bytes doc
+  pub valid : first_refusal doc.steps doc.columns ≡ None
+  pub made : List Series
+  pub plain : plain_on doc.steps doc.columns ≡ Some made
+  pub written : text ≡ text_of made (height_of made)
+
+-- a step is refused, and the text is the line of the first refusal
+pub record IsRefusal (bytes text : List ℕ) : Type 0 where
+  pub doc : Doc
+  pub document : IsDocument bytes doc
+  pub fault : PxError
+  pub first : first_refusal doc.steps doc.columns ≡ Some fault
+  pub written : text ≡ line_of fault
+
+-- the bytes say no document, and the text is the line that tells so
+pub record IsNoDocument (bytes text : List ℕ) : Type 0 where
+  pub none : (doc : Doc) → IsDocument bytes doc → ⊥
+  pub written : text ≡ bad_document_line

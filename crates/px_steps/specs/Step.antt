@@ -1,0 +1,14 @@
+-- What contracts see of a step: plain data, with no memory in it.
+use Rattle.std.specs.Prelude.{ℕ, List, Option, map, option_map}
+use Rattle.px_plan.specs.Tree.{Tree}
+use Rattle.px_plan.specs.View.{tree}
+use Rattle.px_steps.specs.declared.step.Step.{Step}
+use Rattle.px_steps.specs.declared.step.Step.TheVariants.{GroupAgg}
+
+-- the keys, the aggregations and the chunk lengths
+pub data PlainStep : Type 0 where
+  group : List Tree → List Tree → Option (List ℕ) → PlainStep
+
+-- each expression seen as its tree
+abbrev pub step_view : Step → PlainStep
+step_view (GroupAgg keys aggs chunks) = group (map tree keys.items) (map tree aggs.items) (option_map (λ v. v.items) chunks)

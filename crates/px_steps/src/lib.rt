@@ -1,0 +1,21 @@
+//! Steps over frames: read from a document, run, and written as text.
+#![tactic(auto)]
+
+mod document;
+mod label;
+mod memory;
+mod sink;
+mod source;
+mod standard;
+mod step;
+mod text;
+mod transfer;
+
+pub use document::DocumentFault;
+pub use label::error_line;
+pub use memory::{MemorySink, MemorySource};
+pub use sink::{Sink, SinkFailed};
+pub use source::{Source, SourceFailed};
+pub use standard::{StdinSource, StdoutSink};
+pub use step::Step;
+pub use transfer::LIMIT;

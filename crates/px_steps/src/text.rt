@@ -1,0 +1,11 @@
+//! The text of a frame: its names, its types and its rows, each a line.
+
+mod data_type;
+mod frame;
+pub(crate) mod json;
+mod value;
+
+pub(crate) use frame::columns_text;
+
+#[cfg(test)]
+mod tests;
