@@ -85,6 +85,16 @@ fn are_within(len: usize, indices: &[Option<u32>]) -> bool
     true
 }
 
+fn copy_slots(alloc: Global, rows: &[Option<Value>]) -> Px<Vec<Option<Value>>>
+    ensures { AnswersBy (λ v. slots_of v.items) result (Ok (slots_of rows.now)) }
+{
+    let mut copies = Vec::with_capacity(alloc, rows.len())?;
+    for row in rows {
+        copies.push(copy_slot(alloc, lend(row))?)?;
+    }
+    Ok(copies)
+}
+
 fn take_slot(alloc: Global, rows: &[Option<Value>], index: Option<u32>) -> Px<Option<Value>>
     ensures { AnswersBy slot_of result (Ok (taken_at (slots_of rows.now) index)) }
 {
@@ -176,6 +186,17 @@ impl Column {
         ensures fits { slot_fits self.now.kind (slot_of_ref result) ≡ true }
     {
         slot(&self.rows, row)
+    }
+
+    /// An equal column.
+    pub fn try_clone(&self, alloc: Global) -> Px<Column>
+        ensures { Answers result (Ok self.now) }
+    {
+        Ok(Column {
+            name: self.name.try_clone(alloc)?,
+            dtype: self.dtype.try_clone(alloc)?,
+            rows: copy_slots(alloc, &self.rows)?,
+        })
     }
 
     /// The column under another name.

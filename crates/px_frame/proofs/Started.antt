@@ -1,8 +1,11 @@
 -- Groups that begin with their numbers `first`.
-use Rattle.std.proofs.Common.{◌≡◌, ℕ, zero, suc, ◌<◌, List, [], ◌∷◌, ◌++◌, length, map, get_or, refl, sym, ◌∙◌, ap, arith}
+use Rattle.std.proofs.Common.{◌≡◌, ℕ, zero, suc, ◌<◌, ◌&&◌, true, nat_lt, List, [], ◌∷◌, ◌++◌, length, map, get_or, refl, sym, ◌∙◌, ap, arith}
 use Rattle.std.proofs.Math.ListN.{set}
 use Rattle.std.specs.declared.alloc.Global.{Global}
 use Rattle.smallvec.specs.declared.SmallVec.{SmallVec}
+use Rattle.std.specs.List.{list_all}
+use Rattle.std.proofs.lemmas.Bool.Decides.{nat_tests}
+use Rattle.px_frame.specs.Aggregate.{has_row}
 use Rattle.px_frame.specs.Enter.{AreStarted}
 use Rattle.px_frame.specs.Groups.{group_of, first_row}
 use Rattle.px_frame.specs.GroupsView.{idx_group}
@@ -21,3 +24,12 @@ AreStarted-set (x ∷ xs) (suc i) row g d h n f e = (h.0, AreStarted-set xs i ro
 pub groups_of_rows : (gs : List (ℕ × SmallVec ℕ 1 Global)) → AreStarted gs → map idx_group gs ≡ map group_of (map (λ g. g.1.items) gs)
 groups_of_rows [] h = refl
 groups_of_rows (g ∷ gs) h = λ i. record { first = sym (ap first_row h.0.1) i; rows = g.1.items } ∷ groups_of_rows gs h.1 i
+
+-- each of them has a row
+pub started_rows : (gs : List (ℕ × SmallVec ℕ 1 Global)) → AreStarted gs → list_all has_row (map idx_group gs) ≡ true
+started_rows [] h = refl
+started_rows (g ∷ gs) h = λ i. has_first g.1.items g.0 h.0.0 h.0.1 i && started_rows gs h.1 i
+  where
+    has_first : (rows : List ℕ) (first : ℕ) (rest : List ℕ) → rows ≡ first ∷ rest → nat_lt 0 (length rows) ≡ true
+    has_first [] first rest e = cc
+    has_first (r ∷ rs) first rest e = grind (arith, nat_tests)

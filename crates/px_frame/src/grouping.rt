@@ -1,8 +1,9 @@
 //! Rows grouped by equal keys, through a table of the keys seen so far (polars `group_by` with
 //! `maintain_order`).
-ghost use Rattle.std.specs.Prelude.{◌≡◌, ◌+◌, Ok, OnOk, length, map, vec_len};
-ghost use Rattle.std.specs.List.{IsDistinct, list_any};
+ghost use Rattle.std.specs.Prelude.{◌≡◌, ◌+◌, Ok, IfOk, OnOk, length, map, true, vec_len};
+ghost use Rattle.std.specs.List.{IsDistinct, list_all, list_any};
 ghost use Rattle.px_column.specs.Answer.{Answers};
+ghost use Rattle.px_frame.specs.Aggregate.{has_row};
 ghost use Rattle.px_frame.specs.Enter.{entered, AreStarted};
 ghost use Rattle.px_frame.specs.Groups.{groups_by, grouped, is_list};
 ghost use Rattle.px_frame.specs.Parts.{with_key};
@@ -47,7 +48,8 @@ fn enter<K: Eq + Hash + Drop>(
 
 /// The groups of the rows by the keys in these columns, through a table of the keys seen so far.
 fn group_rows(alloc: Global, height: u32, by: &[Column]) -> Px<GroupPositions>
-    ensures { Answers result (Ok (groups_by by.now height)) }
+    ensures groups { Answers result (Ok (groups_by by.now height)) }
+    ensures rows { IfOk result (λ g. list_all has_row g.groups ≡ true) }
 {
     let mut seen: IndexSet<RowKey<'_>> = IndexSet::new(alloc);
     let mut groups: Vec<(u32, IdxVec)> = Vec::new(alloc);
@@ -78,6 +80,7 @@ pub fn group_by<L: Ledger>(
     groupings: &mut Steps<L>,
 ) -> Px<GroupPositions>
     ensures answer { Answers result (grouped height by.now) }
+    ensures rows { IfOk result (λ g. list_all has_row g.groups ≡ true) }
     ensures ticks { groupings.new ≡ groupings.old + 1 }
 {
     groupings.tick();

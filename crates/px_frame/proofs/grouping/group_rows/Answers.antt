@@ -2,6 +2,7 @@ use Rattle.std.proofs.Common.{◌≡◌, ap, sym, arith, map, Ok, ◌∙◌, ℕ
 use Rattle.px_frame.specs.Groups.{group_of, groups_by}
 use Rattle.px_frame.specs.Parts.{parts_of}
 use Rattle.px_frame.proofs.Built.{keys_step, groups_step, groups_made, IsGroups-made}
+use Rattle.px_frame.proofs.Started.{started_rows}
 use Rattle.px_frame.proofs.grouping.group_rows.Goals as goal
 
 pub loop-row-preserved : goal.loop-row-preserved
@@ -23,11 +24,14 @@ from_rows-requires c =
     let made = groups_made c.args.by.now c.loop-row.row _ c.loop-row.groups.items inv.started inv.keys inv.groups in
     IsGroups-made c.args.by.now c.args.height c.loop-row.groups.items few (made ∙ ap (λ (n : ℕ). map group_of (parts_of c.args.by.now n)) all)
 
-pub returns : goal.returns
-returns c =
+pub returns-clause-groups : goal.returns-clause-groups
+returns-clause-groups c =
     let inv = c.loop-row.invariant in
     let all : c.loop-row.row ≡ c.args.height = omega arith in
     let made = groups_made c.args.by.now c.loop-row.row _ c.loop-row.groups.items inv.started inv.keys inv.groups in
     let same : c.from_rows.result ≡ groups_by c.args.by.now c.args.height =
     c.from_rows.ensures ∙ (λ i. record { height = c.args.height; groups = (made ∙ ap (λ (n : ℕ). map group_of (parts_of c.args.by.now n)) all) i }) in
     ap Ok (sym same)
+
+pub returns-clause-rows : goal.returns-clause-rows
+returns-clause-rows c = rw c.from_rows.ensures (started_rows c.loop-row.groups.items c.loop-row.invariant.started)
