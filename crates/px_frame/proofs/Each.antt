@@ -63,7 +63,7 @@ firsts_within height (g ∷ gs) h e =
     let below = (both (are_below height g.rows) (nat_lt (length g.rows) (2 ^ 32)) p.0).0 in
     λ i. first_below height g.rows below q.0 i && firsts_within height gs p.1 q.1 i
 
-has_height_is : (n : ℕ) (s : Series) → has_height n s ≡ true → length s.slots ≡ n
+pub has_height_is : (n : ℕ) (s : Series) → has_height n s ≡ true → length s.slots ≡ n
 has_height_is n s h = grind (arith, nat_tests)
 
 pub firsts_in_all : (height : ℕ) (groups : List Group) (by : List Series) → IsGroups height groups → list_all has_row groups ≡ true → all_have_height height by ≡ true

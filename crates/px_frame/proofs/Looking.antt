@@ -1,11 +1,13 @@
 -- A column that is found by its name's place among the names.
 use Rattle.std.proofs.Common.{◌≡◌, ℕ, zero, suc, ◌+◌, ◌<◌, Bool, true, false, not, cond, List, [], ◌∷◌, Some, None, length, get_or, refl, sym, ◌∙◌, ap, arith, slice_get, nat_lt}
-use Rattle.std.specs.List.{position, position_or_len}
+use Rattle.std.specs.Cmp.Lexicographic.{bytes_decides}
+use Rattle.std.specs.List.{position, position_or_len, find, list_all}
 use Rattle.std.proofs.lemmas.Bool.Decides.{nat_tests}
 use Rattle.std.proofs.lemmas.List.{length-map}
 use Rattle.std.proofs.lemmas.List.Folds.{find_at}
 use Rattle.px_column.specs.Series.{Series}
-use Rattle.px_frame.specs.Frame.{name_eq, has_name, names_of, look}
+use Rattle.px_frame.specs.Frame.{name_eq, has_name, names_of, look, height_of, has_height, is_even}
+use Rattle.px_frame.proofs.Each.{both, has_height_is}
 
 place_of_name : (n : List ℕ) (frame : List Series) → position_or_len (has_name n) frame ≡ position_or_len (name_eq n) (names_of frame)
 place_of_name n [] = refl
@@ -51,3 +53,26 @@ looked_up n frame place s h e =
     let f = some_found (name_eq n) (names_of frame) place h in
     let there : place < length frame = omega (arith, f.1, length_names frame) in
     sym (look_by_place n frame ∙ ap (slice_get frame) (sym f.0) ∙ at_place frame place s there e)
+
+-- the column that is found has the name, and what holds of each column
+found_by : (test : Series → Bool) (frame : List Series) (s : Series) → Some s ≡ find test frame → test s ≡ true
+found_by test [] s e = cc
+found_by test (x ∷ frame) s e = by (test x) refl (found_by test frame s) e
+  where
+    by : (b : Bool) → test x ≡ b → (Some s ≡ find test frame → test s ≡ true) → Some s ≡ cond b (Some x) (find test frame) → test s ≡ true
+    by true h rest f = let same : s ≡ x = cc in ap test same ∙ h
+    by false h rest f = rest f
+
+found_among : (test each : Series → Bool) (frame : List Series) (s : Series) → list_all each frame ≡ true → Some s ≡ find test frame → each s ≡ true
+found_among test each [] s a e = cc
+found_among test each (x ∷ frame) s a e = by (test x) (found_among test each frame s (both (each x) (list_all each frame) a).1) e
+  where
+    by : (b : Bool) → (Some s ≡ find test frame → each s ≡ true) → Some s ≡ cond b (Some x) (find test frame) → each s ≡ true
+    by true rest f = let same : s ≡ x = cc in ap each same ∙ (both (each x) (list_all each frame) a).0
+    by false rest f = rest f
+
+pub looked_name : (n : List ℕ) (frame : List Series) (s : Series) → Some s ≡ look n frame → s.name ≡ n
+looked_name n frame s e = sym ((bytes_decides n s.name).0 (found_by (has_name n) frame s e))
+
+pub looked_height : (n : List ℕ) (frame : List Series) (s : Series) → is_even frame ≡ true → Some s ≡ look n frame → length s.slots ≡ height_of frame
+looked_height n frame s h e = has_height_is (height_of frame) s (found_among (has_name n) (has_height (height_of frame)) frame s h e)

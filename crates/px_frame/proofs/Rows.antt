@@ -7,18 +7,12 @@ use Rattle.px_column.specs.Column.{taken_at, all_within}
 use Rattle.px_column.specs.Series.{Series, slot_at}
 use Rattle.px_column.specs.declared.error.PxError.{PxError}
 use Rattle.px_column.specs.declared.error.PxError.TheVariants.{ShapeMismatch}
+use Rattle.px_frame.proofs.Each.{both, has_height_is}
 use Rattle.px_frame.specs.Frame.{names_of, all_have_height, has_height, is_even, IsFrame, frame_of, first_repeat, unless_repeated, are_below, are_in_all, taken_series, series_at, slots_at, subframe}
-
-both : (a b : Bool) → (a && b) ≡ true → (a ≡ true) × (b ≡ true)
-both true b h = (refl, h)
-both false b h = cc
 
 within_below : (n : ℕ) (rows : List ℕ) → all_within n (map Some rows) ≡ are_below n rows
 within_below n [] = refl
 within_below n (r ∷ rs) = ap (λ b. nat_lt r n && b) (within_below n rs)
-
-has_height_is : (n : ℕ) (s : Series) → has_height n s ≡ true → length s.slots ≡ n
-has_height_is n s h = grind (arith, nat_tests)
 
 pub in_all : (n : ℕ) (rows : List ℕ) (frame : List Series) → all_have_height n frame ≡ true → are_below n rows ≡ true → are_in_all (map Some rows) frame ≡ true
 in_all n rows [] h b = refl

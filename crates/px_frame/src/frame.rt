@@ -1,5 +1,5 @@
 //! Frames: columns with distinct names and of one height.
-ghost use Rattle.std.specs.Prelude.{◌≡◌, ◌<◌, ◌^◌, ◌++◌, ◌∷◌, [], Ok, Err, OnOk, true, List, map, option_map, length, vec_len, if◌then◌else◌};
+ghost use Rattle.std.specs.Prelude.{◌≡◌, ◌<◌, ◌^◌, ◌++◌, ◌∷◌, [], Ok, Err, OnOk, IfSome, true, List, map, option_map, length, vec_len, if◌then◌else◌};
 ghost use Rattle.std.specs.List.{list_any};
 ghost use Rattle.px_column.specs.Answer.{Answers, AnswersBy};
 ghost use Rattle.px_column.specs.Column.{all_within};
@@ -97,7 +97,9 @@ impl DataFrame {
 
     /// The column of a name, `None` where there is none.
     pub fn column(&self, name: &Name) -> Option<&Column>
-        ensures { option_map (λ c. c.now) result ≡ look name.now self.now }
+        ensures found { option_map (λ c. c.now) result ≡ look name.now self.now }
+        ensures name { IfSome result (λ c. c.now.name ≡ name.now) }
+        ensures height { IfSome result (λ c. length c.now.slots ≡ height_of self.now) }
     {
         match self.names.get_index_of(name) {
             None => None,

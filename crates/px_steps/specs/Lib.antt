@@ -8,3 +8,5 @@ pub mod Document
 pub mod Fault
 pub mod Plain
 pub mod Reply
+pub mod Meets
+pub mod Built

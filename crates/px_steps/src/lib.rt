@@ -2,6 +2,7 @@
 #![tactic(auto)]
 
 mod document;
+mod group_step;
 mod label;
 mod memory;
 mod sink;
