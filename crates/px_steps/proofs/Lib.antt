@@ -1,5 +1,5 @@
 pub mod Views
-pub mod Loop
 pub mod HasRead
 pub mod Taking
 pub mod Separated
+pub mod Named

@@ -1,5 +1,5 @@
 -- How a document's data is taken apart, and how a reader's answer is told.
-use Rattle.std.specs.Prelude.{◌≡◌, ℕ, suc, ◌==◌, Bool, false, List, [], ◌∷◌, length, Option, Some, None, option_map, option_and_then, unwrap_or, if◌then◌else◌, Result, Ok, Err}
+use Rattle.std.specs.Prelude.{◌≡◌, ℕ, suc, ◌==◌, Bool, false, List, [], ◌∷◌, ◌++◌, length, Option, Some, None, option_map, option_and_then, unwrap_or, if◌then◌else◌, Result, Ok, Err}
 use Rattle.serde_json.specs.Data.{Data, Items, no_items, item, Members, no_members, member}
 use Rattle.serde_json.specs.Find.{get, as_array, as_object}
 use Rattle.px_steps.specs.declared.document.fault.DocumentFault.{DocumentFault}
@@ -19,6 +19,10 @@ only _ = None
 abbrev pub each : {A B : Type 0} → (A → Option B) → List A → Option (List B)
 each f [] = Some []
 each f (x ∷ xs) = f x >>= λ y. option_map (λ ys. y ∷ ys) (each f xs)
+
+-- what was made so far, before what is made of the rest
+abbrev pub with_front : {B : Type 0} → List B → Option (List B) → Option (List B)
+with_front front rest = option_map (λ ys. front ++ ys) rest
 
 -- the items, as a list
 abbrev pub listed : Items → List Data

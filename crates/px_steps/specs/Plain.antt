@@ -16,7 +16,7 @@ use Rattle.px_frame.specs.Parts.{parts_of}
 use Rattle.px_plan.specs.Meaning.{Shape, one, many, shape_of, name_of, kind_on, value_on}
 use Rattle.px_plan.specs.Refusals.{refusals_of, first_of_two, frame_place, groups_place}
 use Rattle.px_plan.specs.Tree.{Tree, column, agg, len}
-use Rattle.px_steps.specs.Form.{each}
+use Rattle.px_steps.specs.Form.{each, with_front}
 use Rattle.px_steps.specs.Step.{PlainStep, group}
 
 -- a unit stands at each of n rows, rows stand as they are
@@ -49,7 +49,7 @@ aggregated_on frame ps e = option_map (λ k. record { name = name_of e; kind = g
 abbrev pub columns_on : List Series → List Series → List Tree → Option (List Series)
 columns_on frame by aggs =
     let ps = parts_of by (height_of frame) in
-    option_map (λ values. map (key_values ps) by ++ values) (each (aggregated_on frame ps) aggs)
+    with_front (map (key_values ps) by) (each (aggregated_on frame ps) aggs)
 
 -- the frame that a step makes of a frame
 abbrev pub step_on : PlainStep → List Series → Option (List Series)

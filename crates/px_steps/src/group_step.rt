@@ -1,30 +1,36 @@
 //! A group step: one row for each part of a frame by keys.
-ghost use Rattle.std.specs.Prelude.{◌≡◌, true};
+ghost use Rattle.std.specs.Prelude.{◌≡◌, ◌<◌, length, map, true};
+ghost use Rattle.std.specs.List.{flat_map, list_all};
 ghost use Rattle.px_column.specs.declared.error.PxError.TheVariants.{ColumnNotFound};
 ghost use Rattle.px_column.specs.declared.method.GroupByMethod.TheVariants.{Sum};
 ghost use Rattle.px_frame.specs.Frame.{look, height_of};
 ghost use Rattle.px_frame.specs.Groups.{rows_of};
-ghost use Rattle.px_plan.specs.Tree.{agg};
 ghost use Rattle.px_plan.specs.Refusals.{unless_there};
+ghost use Rattle.px_plan.specs.Tree.{column, agg, len};
 ghost use Rattle.px_plan.specs.View.{tree};
-ghost use Rattle.px_steps.specs.Built.{is_built_key};
+ghost use Rattle.px_steps.specs.Built.{is_built_key, is_built_agg};
+ghost use Rattle.px_steps.specs.Form.{each, with_front};
 ghost use Rattle.px_steps.specs.Meets.{Meets, MeetsBy};
 ghost use Rattle.px_steps.specs.Plain.{key_on, key_refusals, aggregated_on, agg_refusals};
 
 use px_column::{Column, InvalidWhy, Name, Px, PxError, Steps};
 use px_frame::{DataFrame, GroupPositions, agg_sum};
-use px_plan::Expr;
+use px_plan::{AggExpr, Expr};
 use std::alloc::Global;
 use std::sync::ledger::Ledger;
 
-/// The column of a name, lent.
-fn found<'a>(alloc: Global, frame: &'a DataFrame, name: &Name) -> Px<&'a Column>
-    ensures { MeetsBy (λ c. c.now) result (unless_there (look name.now frame.now) (ColumnNotFound name.now)) (look name.now frame.now) }
+/// The column of a name, lent, as a key.
+#[tactic(auto, using(crate::proofs::Named::key_found, crate::proofs::Named::key_list, crate::proofs::Named::key_missing))]
+fn key_named<'a>(alloc: Global, frame: &'a DataFrame, name: &Name) -> Px<&'a Column>
+    ensures { MeetsBy (λ c. c.now) result (key_refusals frame.now (column name.now)) (key_on frame.now (column name.now)) }
 {
-    match frame.column(name) {
-        Some(column) => Ok(column),
-        None => Err(PxError::ColumnNotFound(name.try_clone(alloc)?)),
+    let Some(column) = frame.column(name) else {
+        return Err(PxError::ColumnNotFound(name.try_clone(alloc)?));
+    };
+    if column.dtype().is_list() {
+        return Err(PxError::InvalidOperation(InvalidWhy::ListKey));
     }
+    Ok(column)
 }
 
 /// The column that a key names, lent.
@@ -32,32 +38,95 @@ fn key_column<'a>(alloc: Global, frame: &'a DataFrame, key: &Expr) -> Px<&'a Col
     requires { is_built_key (tree key.now) ≡ true }
     ensures { MeetsBy (λ c. c.now) result (key_refusals frame.now (tree key.now)) (key_on frame.now (tree key.now)) }
 {
-    let Expr::Column(name) = key else {
-        unreachable!()
-    };
-    let column = found(alloc, frame, name)?;
-    if column.dtype().is_list() {
-        return Err(PxError::InvalidOperation(InvalidWhy::ListKey));
+    match key {
+        Expr::Column(name) => key_named(alloc, frame, name),
+        _ => unreachable!(),
     }
-    Ok(column)
 }
 
-/// The sum of a column for each group.
-fn sum_column<L: Ledger>(
+/// The sum of the column of a name, for each group.
+fn sum_named<L: Ledger>(
     alloc: Global,
     frame: &DataFrame,
     groups: &GroupPositions,
-    input: &Expr,
+    name: &Name,
     kernels: &mut Steps<L>,
 ) -> Px<Column>
-    requires built { is_built_key (tree input.now) ≡ true }
-    requires height { groups.now.height ≡ height_of frame.now }
-    ensures { Meets result (agg_refusals frame.now (agg Sum (tree input.now))) (aggregated_on frame.now (rows_of groups.now) (agg Sum (tree input.now))) }
+    requires { groups.now.height ≡ height_of frame.now }
+    ensures { Meets result (agg_refusals frame.now (agg Sum (column name.now))) (aggregated_on frame.now (rows_of groups.now) (agg Sum (column name.now))) }
 {
-    let Expr::Column(name) = input else {
-        unreachable!()
-    };
-    let column = found(alloc, frame, name)?;
-    agg_sum(alloc, column, groups, kernels)
+    match frame.column(name) {
+        Some(column) => agg_sum(alloc, column, groups, kernels),
+        None => Err(PxError::ColumnNotFound(name.try_clone(alloc)?)),
+    }
 }
 
+/// The number of rows of each group.
+fn group_lengths(alloc: Global, frame: &DataFrame, groups: &GroupPositions) -> Px<Column>
+    requires { 0 < length frame.now }
+    ensures { Meets result (agg_refusals frame.now len) (aggregated_on frame.now (rows_of groups.now) len) }
+{
+    Ok(
+        groups
+            .group_count(alloc)?
+            .with_name(Name::new(alloc, "len")?),
+    )
+}
+
+/// An aggregation's value for each group.
+fn aggregation<L: Ledger>(
+    alloc: Global,
+    frame: &DataFrame,
+    groups: &GroupPositions,
+    expr: &Expr,
+    kernels: &mut Steps<L>,
+) -> Px<Column>
+    requires built { is_built_agg (tree expr.now) ≡ true }
+    requires height { groups.now.height ≡ height_of frame.now }
+    requires columns { 0 < length frame.now }
+    ensures { Meets result (agg_refusals frame.now (tree expr.now)) (aggregated_on frame.now (rows_of groups.now) (tree expr.now)) }
+{
+    match expr {
+        Expr::Len => group_lengths(alloc, frame, groups),
+        Expr::Agg(AggExpr::Sum(input)) => match &**input {
+            Expr::Column(name) => sum_named(alloc, frame, groups, name, kernels),
+            _ => unreachable!(),
+        },
+        Expr::Column(_) => unreachable!(),
+    }
+}
+
+/// The columns that keys name, copied side by side.
+#[tactic(auto, using(crate::proofs::Named::IsFirst_append))]
+fn key_columns(alloc: Global, frame: &DataFrame, keys: &[Expr]) -> Px<Vec<Column>>
+    requires { list_all is_built_key (map tree keys.now) ≡ true }
+    ensures { MeetsBy (λ v. v.items) result (flat_map (key_refusals frame.now) (map tree keys.now)) (each (key_on frame.now) (map tree keys.now)) }
+{
+    let mut columns = Vec::with_capacity(alloc, keys.len())?;
+    for key in keys {
+        columns.push(key_column(alloc, frame, key)?.try_clone(alloc)?)?;
+    }
+    Ok(columns)
+}
+
+/// Adds each aggregation's column.
+#[tactic(auto, using(crate::proofs::Named::IsFirst_append))]
+fn push_aggregations<L: Ledger>(
+    alloc: Global,
+    columns: &mut Vec<Column>,
+    frame: &DataFrame,
+    groups: &GroupPositions,
+    aggs: &[Expr],
+    kernels: &mut Steps<L>,
+) -> Px<()>
+    requires built { list_all is_built_agg (map tree aggs.now) ≡ true }
+    requires height { groups.now.height ≡ height_of frame.now }
+    requires columns { 0 < length frame.now }
+    ensures { MeetsBy (λ _. columns.new.items) result (flat_map (agg_refusals frame.now) (map tree aggs.now))
+        (with_front columns.old.items (each (aggregated_on frame.now (rows_of groups.now)) (map tree aggs.now))) }
+{
+    for expr in aggs {
+        columns.push(aggregation(alloc, frame, groups, expr, kernels)?)?;
+    }
+    Ok(())
+}

@@ -3,7 +3,7 @@ use Rattle.serde_json.specs.View.{view}
 use Rattle.px_column.specs.View.{slots_of}
 use Rattle.px_steps.specs.Document.{place_of}
 use Rattle.px_steps.specs.Form.{each}
-use Rattle.px_steps.proofs.Loop.{with_front}
+use Rattle.px_steps.specs.Form.{with_front}
 use Rattle.px_steps.proofs.document.column.read_places.Given as goal
 
 -- what was read and what is left are all

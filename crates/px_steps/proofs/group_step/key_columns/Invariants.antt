@@ -1,0 +1,14 @@
+use Rattle.std.proofs.Common.{◌≡◌, map, drop, true}
+use Rattle.std.specs.List.{flat_map, list_all}
+use Rattle.px_plan.specs.View.{tree}
+use Rattle.px_steps.specs.Built.{is_built_key}
+use Rattle.px_steps.specs.Form.{each, with_front}
+use Rattle.px_steps.specs.Plain.{key_on, key_refusals}
+use Rattle.px_steps.proofs.group_step.key_columns.Given as goal
+
+abbrev pub invariant-loop-key : goal.invariant-loop-key
+invariant-loop-key l = record {
+  built : list_all is_built_key (map tree (drop l.key-index l.keys)) ≡ true;
+  refused : flat_map (key_refusals l.frame) (map tree (drop l.key-index l.keys)) ≡ flat_map (key_refusals l.frame) (map tree l.keys);
+  made : with_front l.columns.items (each (key_on l.frame) (map tree (drop l.key-index l.keys))) ≡ each (key_on l.frame) (map tree l.keys);
+}

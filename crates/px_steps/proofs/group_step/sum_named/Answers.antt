@@ -1,0 +1,7 @@
+use Rattle.std.proofs.Common.{sym}
+use Rattle.px_steps.proofs.Named.{sum_meets}
+use Rattle.px_steps.proofs.group_step.sum_named.Goals as goal
+
+pub returns-in-Some : goal.returns-in-Some
+returns-in-Some g c =
+    sum_meets c.args.name.now c.args.frame.now c.in-Some.column.now c.args.groups.now c.agg_sum.result (sym c.in-Some.ensures.found) c.in-Some.ensures.name c.agg_sum.ensures.answer
