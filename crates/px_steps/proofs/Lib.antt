@@ -3,3 +3,4 @@ pub mod HasRead
 pub mod Taking
 pub mod Separated
 pub mod Named
+pub mod Columns

@@ -1,20 +1,21 @@
 //! A group step: one row for each part of a frame by keys.
-ghost use Rattle.std.specs.Prelude.{◌≡◌, ◌<◌, length, map, true};
-ghost use Rattle.std.specs.List.{flat_map, list_all};
+ghost use Rattle.std.specs.Prelude.{◌≡◌, ◌+◌, ◌<◌, ◌++◌, [], false, length, map, true};
+ghost use Rattle.std.specs.List.{flat_map, list_all, list_any};
 ghost use Rattle.px_column.specs.declared.error.PxError.TheVariants.{ColumnNotFound};
 ghost use Rattle.px_column.specs.declared.method.GroupByMethod.TheVariants.{Sum};
-ghost use Rattle.px_frame.specs.Frame.{look, height_of};
-ghost use Rattle.px_frame.specs.Groups.{rows_of};
-ghost use Rattle.px_plan.specs.Refusals.{unless_there};
+ghost use Rattle.px_frame.specs.Frame.{all_have_height, first_repeat, height_of, look, names_of};
+ghost use Rattle.px_frame.specs.Groups.{is_list, rows_of};
+ghost use Rattle.px_plan.specs.Meaning.{name_of};
+ghost use Rattle.px_plan.specs.Refusals.{first_of_two};
 ghost use Rattle.px_plan.specs.Tree.{column, agg, len};
 ghost use Rattle.px_plan.specs.View.{tree};
 ghost use Rattle.px_steps.specs.Built.{is_built_key, is_built_agg};
 ghost use Rattle.px_steps.specs.Form.{each, with_front};
 ghost use Rattle.px_steps.specs.Meets.{Meets, MeetsBy};
-ghost use Rattle.px_steps.specs.Plain.{key_on, key_refusals, aggregated_on, agg_refusals};
+ghost use Rattle.px_steps.specs.Plain.{key_on, key_refusals, aggregated_on, agg_refusals, columns_on, repeat_refusal};
 
 use px_column::{Column, InvalidWhy, Name, Px, PxError, Steps};
-use px_frame::{DataFrame, GroupPositions, agg_sum};
+use px_frame::{DataFrame, GroupPositions, agg_sum, group_by, key_rows};
 use px_plan::{AggExpr, Expr};
 use std::alloc::Global;
 use std::sync::ledger::Ledger;
@@ -129,4 +130,30 @@ fn push_aggregations<L: Ledger>(
         columns.push(aggregation(alloc, frame, groups, expr, kernels)?)?;
     }
     Ok(())
+}
+
+/// The frame of the groups by these columns, of which there is one at least; each has the frame's
+/// height and is no list.
+fn grouped_frame<L: Ledger, M: Ledger>(
+    alloc: Global,
+    frame: &DataFrame,
+    by: &[Column],
+    aggs: &[Expr],
+    kernels: &mut Steps<L>,
+    groupings: &mut Steps<M>,
+) -> Px<DataFrame>
+    requires keys { 0 < length by.now }
+    requires plain { list_any is_list by.now ≡ false }
+    requires height { all_have_height (height_of frame.now) by.now ≡ true }
+    requires columns { 0 < length frame.now }
+    requires built { list_all is_built_agg (map tree aggs.now) ≡ true }
+    ensures answer { Meets result
+        (first_of_two (flat_map (agg_refusals frame.now) (map tree aggs.now)) (repeat_refusal (first_repeat [] (names_of by.now ++ map name_of (map tree aggs.now)))))
+        (columns_on frame.now by.now (map tree aggs.now)) }
+    ensures grouped { groupings.new ≡ groupings.old + 1 }
+{
+    let groups = group_by(alloc, frame.height(), by, groupings)?;
+    let mut columns = key_rows(alloc, by, &groups)?;
+    push_aggregations(alloc, &mut columns, frame, &groups, aggs, kernels)?;
+    DataFrame::new(alloc, columns)
 }

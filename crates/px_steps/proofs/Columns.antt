@@ -1,0 +1,164 @@
+-- The columns of a group step: their names, their lengths, and the frame that they make.
+use Rattle.std.proofs.Common.{◌≡◌, ℕ, ◌<◌, Bool, true, false, ◌&&◌, List, [], ◌∷◌, ◌++◌, Option, Some, None, Result, Ok, Err, length, map, refl, sym, ◌∙◌, ap, arith, subst, option_map, option_and_then, if◌then◌else◌}
+use Rattle.std.specs.List.{list_all, list_any, flat_map}
+use Rattle.std.proofs.lemmas.Bool.Decides.{nat_tests}
+use Rattle.std.proofs.lemmas.List.{length-map}
+use Rattle.px_column.specs.Answer.{Answers, Refuses}
+use Rattle.px_column.specs.Kind.{Kind}
+use Rattle.px_column.specs.Series.{Series, slot_at}
+use Rattle.px_column.specs.declared.error.PxError.{PxError}
+use Rattle.px_column.specs.declared.error.PxError.TheVariants.{Duplicate, ShapeMismatch, InvalidOperation}
+use Rattle.px_column.specs.declared.error.InvalidWhy.TheVariants.{ListKey}
+use Rattle.px_frame.specs.Aggregate.{key_column}
+use Rattle.px_frame.specs.Frame.{names_of, height_of, has_height, all_have_height, is_even, first_repeat, frame_of, unless_repeated}
+use Rattle.px_frame.specs.Groups.{Group, Groups, group_of, grouped, groups_by, first_row, is_list, rows_of}
+use Rattle.px_frame.specs.Parts.{parts_of}
+use Rattle.px_plan.specs.Meaning.{name_of, kind_on, shape_of}
+use Rattle.px_plan.specs.Refusals.{first_of_two}
+use Rattle.px_plan.specs.Tree.{Tree}
+use Rattle.px_steps.specs.Form.{each, with_front}
+use Rattle.px_steps.specs.Meets.{Meets}
+use Rattle.px_steps.specs.Plain.{key_values, aggregated_on, value_on_part, grouped_kind, columns_on, repeat_refusal}
+use Rattle.px_steps.proofs.Named.{refuses_first, refuses_none}
+
+pub and_then_some : {A B : Type 0} (o : Option A) (f : A → Option B) (b : B) → option_and_then f o ≡ Some b → (a : A) × (o ≡ Some a) × (f a ≡ Some b)
+and_then_some None f b h = cc
+and_then_some (Some a) f b h = (a, refl, h)
+
+pub map_some : {A B : Type 0} (o : Option A) (f : A → B) (b : B) → option_map f o ≡ Some b → (a : A) × (o ≡ Some a) × (f a ≡ b)
+map_some None f b h = cc
+map_some (Some a) f b h = (a, refl, cc)
+
+-- the parts of some columns, where there is a key, none is a list and all have the height
+pub grouped_is : (n : ℕ) (by : List Series) → 0 < length by → list_any is_list by ≡ false → all_have_height n by ≡ true → grouped n by ≡ Ok (groups_by by n)
+grouped_is n [] h l a = absurd (omega (arith, h))
+grouped_is n (s ∷ by) h l a =
+    ap (λ (b : Bool). if b then Err (InvalidOperation ListKey) else (if all_have_height n (s ∷ by) then Ok (groups_by (s ∷ by) n) else Err ShapeMismatch)) l
+    ∙ ap (λ (b : Bool). if b then Ok (groups_by (s ∷ by) n) else Err ShapeMismatch) a
+
+pub rows_of_groups : (ps : List (List ℕ)) → map (λ (g : Group). g.rows) (map group_of ps) ≡ ps
+rows_of_groups [] = refl
+rows_of_groups (p ∷ ps) = ap (λ qs. p ∷ qs) (rows_of_groups ps)
+
+key_slots : (s : Series) (ps : List (List ℕ)) → map (λ g. slot_at s.slots (first_row g.rows)) (map group_of ps) ≡ map (λ p. slot_at s.slots (first_row p)) ps
+key_slots s [] = refl
+key_slots s (p ∷ ps) = ap (λ xs. slot_at s.slots (first_row p) ∷ xs) (key_slots s ps)
+
+pub keys_of_groups : (ps : List (List ℕ)) (by : List Series) → map (key_column (map group_of ps)) by ≡ map (key_values ps) by
+keys_of_groups ps [] = refl
+keys_of_groups ps (s ∷ by) = λ i. record s { slots = key_slots s ps i } ∷ keys_of_groups ps by i
+
+names_of_keys : (ps : List (List ℕ)) (by : List Series) → names_of (map (key_values ps) by) ≡ names_of by
+names_of_keys ps [] = refl
+names_of_keys ps (s ∷ by) = ap (λ ns. s.name ∷ ns) (names_of_keys ps by)
+
+has_length : (n : ℕ) (s : Series) → length s.slots ≡ n → has_height n s ≡ true
+has_length n s h = grind (arith, nat_tests)
+
+heights_of_keys : (ps : List (List ℕ)) (by : List Series) → all_have_height (length ps) (map (key_values ps) by) ≡ true
+heights_of_keys ps [] = refl
+heights_of_keys ps (s ∷ by) = λ i. has_length (length ps) (key_values ps s) (length-map ps (λ p. slot_at s.slots (first_row p))) i && heights_of_keys ps by i
+
+-- what is seen of each made column is what is seen of its expression
+made_each : {V : Type 0} (f : Tree → Option Series) (seen : Series → V) (of : Tree → V) (ts : List Tree) (made : List Series) → ((t : Tree) (c : Series) → f t ≡ Some c → seen c ≡ of t) → each f ts ≡ Some made
+    → map seen made ≡ map of ts
+made_each f seen of [] made h e = let none : made ≡ [] = cc in ap (map seen) none
+made_each f seen of (t ∷ ts) made h e =
+    let first = and_then_some (f t) (λ y. option_map (λ ys. y ∷ ys) (each f ts)) made e in
+    let rest = map_some (each f ts) (λ ys. first.0 ∷ ys) made first.2 in
+    ap (map seen) (sym rest.2) ∙ (λ i. h t first.0 first.1 i ∷ made_each f seen of ts rest.0 h rest.1 i)
+
+aggregated_name : (frame : List Series) (ps : List (List ℕ)) (t : Tree) (c : Series) → aggregated_on frame ps t ≡ Some c → c.name ≡ name_of t
+aggregated_name frame ps t c e =
+    let made = map_some (kind_on t frame) (λ k. record { name = name_of t; kind = grouped_kind (shape_of t) k; slots = map (value_on_part frame t) ps }) c e in
+    ap (λ s. s.name) (sym made.2)
+
+aggregated_height : (frame : List Series) (ps : List (List ℕ)) (t : Tree) (c : Series) → aggregated_on frame ps t ≡ Some c → has_height (length ps) c ≡ true
+aggregated_height frame ps t c e =
+    let made = map_some (kind_on t frame) (λ k. record { name = name_of t; kind = grouped_kind (shape_of t) k; slots = map (value_on_part frame t) ps }) c e in
+    has_length (length ps) c (ap (λ s. length s.slots) (sym made.2) ∙ length-map ps (value_on_part frame t))
+
+all_true : {X : Type 0} (test : Series → Bool) (xs : List X) (made : List Series) → map test made ≡ map (λ _. true) xs → list_all test made ≡ true
+all_true test xs [] e = refl
+all_true test [] (c ∷ made) e = cc
+all_true test (x ∷ xs) (c ∷ made) e = let first : test c ≡ true = cc in let rest : map test made ≡ map (λ _. true) xs = cc in λ i. first i && all_true test xs made rest i
+
+append_true : (a : Bool) (b : Bool) (c : Bool) → ((a && b) && c) ≡ (a && (b && c))
+append_true true b c = refl
+append_true false b c = refl
+
+all_append : (test : Series → Bool) (xs ys : List Series) → list_all test xs ≡ true → list_all test ys ≡ true → list_all test (xs ++ ys) ≡ true
+all_append test [] ys h k = k
+all_append test (x ∷ xs) ys h k = by (test x) (list_all test xs) h (all_append test xs ys)
+  where
+    by : (a b : Bool) → (a && b) ≡ true → (b ≡ true → list_all test ys ≡ true → list_all test (xs ++ ys) ≡ true) → (a && list_all test (xs ++ ys)) ≡ true
+    by true b e rest = rest e k
+    by false b e rest = cc
+
+map_append : {A B : Type 0} (f : A → B) (xs ys : List A) → map f (xs ++ ys) ≡ map f xs ++ map f ys
+map_append f [] ys = refl
+map_append f (x ∷ xs) ys = ap (λ zs. f x ∷ zs) (map_append f xs ys)
+
+both : (a b : Bool) → (a && b) ≡ true → (a ≡ true) × (b ≡ true)
+both true b h = (refl, h)
+both false b h = cc
+
+its_length : (n : ℕ) (s : Series) → has_height n s ≡ true → n ≡ length s.slots
+its_length n s h = grind (arith, nat_tests)
+
+even_from : (n : ℕ) (columns : List Series) → all_have_height n columns ≡ true → is_even columns ≡ true
+even_from n [] h = refl
+even_from n (s ∷ columns) h = subst (λ (m : ℕ). all_have_height m (s ∷ columns) ≡ true) (its_length n s (both (has_height n s) (all_have_height n columns) h).0) h
+
+-- the columns' names are those of the keys and the aggregations, and they are of one length
+names_made : (frame by : List Series) (ts : List Tree) (columns : List Series) → columns_on frame by ts ≡ Some columns → names_of columns ≡ names_of by ++ map name_of ts
+names_made frame by ts columns e =
+    let ps = parts_of by (height_of frame) in
+    let made = map_some (each (aggregated_on frame ps) ts) (λ ys. map (key_values ps) by ++ ys) columns e in
+    ap names_of (sym made.2) ∙ map_append (λ s. s.name) (map (key_values ps) by) made.0
+    ∙ (λ i. names_of_keys ps by i ++ made_each (aggregated_on frame ps) (λ s. s.name) name_of ts made.0 (aggregated_name frame ps) made.1 i)
+
+even_made : (frame by : List Series) (ts : List Tree) (columns : List Series) → columns_on frame by ts ≡ Some columns → is_even columns ≡ true
+even_made frame by ts columns e =
+    let ps = parts_of by (height_of frame) in
+    let made = map_some (each (aggregated_on frame ps) ts) (λ ys. map (key_values ps) by ++ ys) columns e in
+    let values = all_true (has_height (length ps)) ts made.0 (made_each (aggregated_on frame ps) (has_height (length ps)) (λ _. true) ts made.0 (aggregated_height frame ps) made.1) in
+    even_from (length ps) columns (ap (all_have_height (length ps)) (sym made.2) ∙ all_append (has_height (length ps)) (map (key_values ps) by) made.0 (heights_of_keys ps by) values)
+
+-- the frame that is made of the columns, or the name that stands twice
+pub frame_meets : (frame by : List Series) (ts : List Tree) (columns : List Series) (r : Result (List Series) PxError)
+    → columns_on frame by ts ≡ Some columns → Answers r (frame_of columns)
+    → Meets r (repeat_refusal (first_repeat [] (names_of by ++ map name_of ts))) (columns_on frame by ts)
+frame_meets frame by ts columns r e a =
+    made (first_repeat [] (names_of by ++ map name_of ts)) (ap (first_repeat []) (names_made frame by ts columns e)) r a
+  where
+    made : (o : Option (List ℕ)) → first_repeat [] (names_of columns) ≡ o → (q : Result (List Series) PxError) → Answers q (frame_of columns) → Meets q (repeat_refusal o) (columns_on frame by ts)
+    made None h (Ok c) b =
+        let is : frame_of columns ≡ Ok columns = ap (λ t. unless_repeated t (if is_even columns then Ok columns else Err ShapeMismatch)) h ∙ ap (λ (t : Bool). if t then Ok columns else Err ShapeMismatch) (even_made frame by ts columns e) in
+        let same : columns ≡ c = cc in
+        (refl, e ∙ ap Some same)
+    made None h (Err f) b =
+        let is : frame_of columns ≡ Ok columns = ap (λ t. unless_repeated t (if is_even columns then Ok columns else Err ShapeMismatch)) h ∙ ap (λ (t : Bool). if t then Ok columns else Err ShapeMismatch) (even_made frame by ts columns e) in
+        refuses_none f columns [] (subst (λ (x : Result (List Series) PxError). Refuses f x) is b)
+    made (Some n) h (Ok c) b =
+        let is : frame_of columns ≡ Err (Duplicate n) = ap (λ t. unless_repeated t (if is_even columns then Ok columns else Err ShapeMismatch)) h in
+        cc
+    made (Some n) h (Err f) b =
+        let is : frame_of columns ≡ Err (Duplicate n) = ap (λ t. unless_repeated t (if is_even columns then Ok columns else Err ShapeMismatch)) h in
+        refuses_first _ f (Duplicate n) [] (subst (λ (x : Result (List Series) PxError). Refuses f x) is b)
+
+-- what the kernels made for the groups is what the definition says of the parts
+pub columns_made : (frame by : List Series) (ts : List Tree) (g : Groups) (keys new : List Series) → g ≡ groups_by by (height_of frame) → keys ≡ map (key_column g.groups) by
+    → with_front keys (each (aggregated_on frame (rows_of g)) ts) ≡ Some new → columns_on frame by ts ≡ Some new
+columns_made frame by ts g keys new e k h =
+    let ps = parts_of by (height_of frame) in
+    let rows : rows_of g ≡ ps = ap rows_of e ∙ rows_of_groups ps in
+    let values : keys ≡ map (key_values ps) by = k ∙ ap (λ (x : Groups). map (key_column x.groups) by) e ∙ keys_of_groups ps by in
+    sym (λ i. with_front (values i) (each (aggregated_on frame (rows i)) ts)) ∙ h
+
+pub groups_are : (n m : ℕ) (by : List Series) (g : Groups) → n ≡ m → 0 < length by → list_any is_list by ≡ false → all_have_height m by ≡ true → grouped n by ≡ Ok g → g ≡ groups_by by m
+groups_are n m by g e h l a r =
+    let is : grouped m by ≡ Ok (groups_by by m) = grouped_is m by h l a in
+    let same : grouped n by ≡ grouped m by = ap (λ k. grouped k by) e in
+    let one : Ok g ≡ Ok (groups_by by m) = sym r ∙ same ∙ is in
+    cc
