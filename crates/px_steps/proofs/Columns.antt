@@ -1,5 +1,5 @@
 -- The columns of a group step: their names, their lengths, and the frame that they make.
-use Rattle.std.proofs.Common.{◌≡◌, ℕ, ◌<◌, Bool, true, false, ◌&&◌, List, [], ◌∷◌, ◌++◌, Option, Some, None, Result, Ok, Err, length, map, refl, sym, ◌∙◌, ap, arith, subst, option_map, option_and_then, if◌then◌else◌}
+use Rattle.std.proofs.Common.{◌≡◌, ℕ, ◌<◌, Bool, true, false, not, ◌&&◌, ◌||◌, List, [], ◌∷◌, ◌++◌, Option, Some, None, Result, Ok, Err, length, map, get_or, refl, sym, ◌∙◌, ap, arith, subst, option_map, option_and_then, if◌then◌else◌}
 use Rattle.std.specs.List.{list_all, list_any, flat_map}
 use Rattle.std.proofs.lemmas.Bool.Decides.{nat_tests}
 use Rattle.std.proofs.lemmas.List.{length-map}
@@ -13,13 +13,15 @@ use Rattle.px_frame.specs.Aggregate.{key_column}
 use Rattle.px_frame.specs.Frame.{names_of, height_of, has_height, all_have_height, is_even, first_repeat, frame_of, unless_repeated}
 use Rattle.px_frame.specs.Groups.{Group, Groups, group_of, grouped, groups_by, first_row, is_list, rows_of}
 use Rattle.px_frame.specs.Parts.{parts_of}
-use Rattle.px_plan.specs.Meaning.{name_of, kind_on, shape_of}
+use Rattle.px_plan.specs.Meaning.{name_of, kind_on, shape_of, value_on}
 use Rattle.px_plan.specs.Refusals.{first_of_two}
 use Rattle.px_plan.specs.Tree.{Tree}
+use Rattle.px_steps.specs.Built.{is_key}
 use Rattle.px_steps.specs.Form.{each, with_front}
-use Rattle.px_steps.specs.Meets.{Meets}
-use Rattle.px_steps.specs.Plain.{key_values, aggregated_on, value_on_part, grouped_kind, columns_on, repeat_refusal}
-use Rattle.px_steps.proofs.Named.{refuses_first, refuses_none}
+use Rattle.px_steps.specs.Meets.{IsFirst, Meets}
+use Rattle.px_steps.specs.Plain.{key_values, aggregated_on, value_on_part, grouped_kind, columns_on, repeat_refusal, key_on, spread, key_refusals, agg_refusals, step_refusals, step_on}
+use Rattle.px_steps.specs.Step.{group}
+use Rattle.px_steps.proofs.Named.{refuses_first, refuses_none, IsFirst_append, IsFirst_or}
 
 pub and_then_some : {A B : Type 0} (o : Option A) (f : A → Option B) (b : B) → option_and_then f o ≡ Some b → (a : A) × (o ≡ Some a) × (f a ≡ Some b)
 and_then_some None f b h = cc
@@ -87,7 +89,7 @@ append_true : (a : Bool) (b : Bool) (c : Bool) → ((a && b) && c) ≡ (a && (b 
 append_true true b c = refl
 append_true false b c = refl
 
-all_append : (test : Series → Bool) (xs ys : List Series) → list_all test xs ≡ true → list_all test ys ≡ true → list_all test (xs ++ ys) ≡ true
+pub all_append : (test : Series → Bool) (xs ys : List Series) → list_all test xs ≡ true → list_all test ys ≡ true → list_all test (xs ++ ys) ≡ true
 all_append test [] ys h k = k
 all_append test (x ∷ xs) ys h k = by (test x) (list_all test xs) h (all_append test xs ys)
   where
@@ -99,12 +101,16 @@ map_append : {A B : Type 0} (f : A → B) (xs ys : List A) → map f (xs ++ ys) 
 map_append f [] ys = refl
 map_append f (x ∷ xs) ys = ap (λ zs. f x ∷ zs) (map_append f xs ys)
 
-both : (a b : Bool) → (a && b) ≡ true → (a ≡ true) × (b ≡ true)
+pub both : (a b : Bool) → (a && b) ≡ true → (a ≡ true) × (b ≡ true)
 both true b h = (refl, h)
 both false b h = cc
 
 its_length : (n : ℕ) (s : Series) → has_height n s ≡ true → n ≡ length s.slots
 its_length n s h = grind (arith, nat_tests)
+
+un_not : (b : Bool) → not b ≡ true → b ≡ false
+un_not true h = cc
+un_not false h = refl
 
 even_from : (n : ℕ) (columns : List Series) → all_have_height n columns ≡ true → is_even columns ≡ true
 even_from n [] h = refl
@@ -156,9 +162,48 @@ columns_made frame by ts g keys new e k h =
     let values : keys ≡ map (key_values ps) by = k ∙ ap (λ (x : Groups). map (key_column x.groups) by) e ∙ keys_of_groups ps by in
     sym (λ i. with_front (values i) (each (aggregated_on frame (rows i)) ts)) ∙ h
 
-pub groups_are : (n m : ℕ) (by : List Series) (g : Groups) → n ≡ m → 0 < length by → list_any is_list by ≡ false → all_have_height m by ≡ true → grouped n by ≡ Ok g → g ≡ groups_by by m
-groups_are n m by g e h l a r =
-    let is : grouped m by ≡ Ok (groups_by by m) = grouped_is m by h l a in
-    let same : grouped n by ≡ grouped m by = ap (λ k. grouped k by) e in
-    let one : Ok g ≡ Ok (groups_by by m) = sym r ∙ same ∙ is in
-    cc
+-- keys are no lists and have the frame's height
+keys_plain : (frame by : List Series) → list_all (is_key frame) by ≡ true → list_any is_list by ≡ false
+keys_plain frame [] h = refl
+keys_plain frame (s ∷ by) h =
+    let p = both (is_key frame s) (list_all (is_key frame) by) h in
+    let q = both (not (is_list s)) (has_height (height_of frame) s) p.0 in
+    λ i. un_not (is_list s) q.0 i || keys_plain frame by p.1 i
+
+pub keys_high : (frame by : List Series) → list_all (is_key frame) by ≡ true → all_have_height (height_of frame) by ≡ true
+keys_high frame [] h = refl
+keys_high frame (s ∷ by) h =
+    let p = both (is_key frame s) (list_all (is_key frame) by) h in
+    let q = both (not (is_list s)) (has_height (height_of frame) s) p.0 in
+    λ i. q.1 i && keys_high frame by p.1 i
+
+pub grouped_by_keys : (n : ℕ) (frame by : List Series) → n ≡ height_of frame → 0 < length by → list_all (is_key frame) by ≡ true → grouped n by ≡ Ok (groups_by by (height_of frame))
+grouped_by_keys n frame by e h k = ap (λ m. grouped m by) e ∙ grouped_is (height_of frame) by h (keys_plain frame by k) (keys_high frame by k)
+
+pub one_item : {X : Type 0} (xs : List X) (x : X) → length xs ≡ 1 → x ≡ get_or xs 0 x → xs ≡ x ∷ []
+one_item [] x h e = absurd (omega (arith, h))
+one_item (y ∷ []) x h e = ap (λ z. z ∷ []) (sym e)
+one_item (y ∷ z ∷ ys) x h e = absurd (omega (arith, h))
+
+key_name : (frame : List Series) (t : Tree) (c : Series) → key_on frame t ≡ Some c → c.name ≡ name_of t
+key_name frame t c e =
+    let first = and_then_some (kind_on t frame) (λ k. option_map (λ v. record { name = name_of t; kind = k; slots = spread (height_of frame) v }) (value_on t frame)) c e in
+    let made = map_some (value_on t frame) (λ v. record { name = name_of t; kind = first.0; slots = spread (height_of frame) v }) c first.2 in
+    ap (λ s. s.name) (sym made.2)
+
+-- where no key is refused, the step is what the grouping by their columns is
+pub step_meets : (frame by : List Series) (keys ts : List Tree) (chunks : Option (List ℕ)) (r : Result (List Series) PxError) → 0 < length keys → flat_map (key_refusals frame) keys ≡ [] → each (key_on frame) keys ≡ Some by
+    → Meets r (first_of_two (flat_map (agg_refusals frame) ts) (repeat_refusal (first_repeat [] (names_of by ++ map name_of ts)))) (columns_on frame by ts)
+    → Meets r (step_refusals (group keys ts chunks) frame) (step_on (group keys ts chunks) frame)
+step_meets frame by [] ts chunks r h n e m = absurd (omega (arith, h))
+step_meets frame by (t ∷ keys) ts chunks r h n e m =
+    let names : names_of by ≡ map name_of (t ∷ keys) = made_each (key_on frame) (λ s. s.name) name_of (t ∷ keys) by (key_name frame) e in
+    let refused : step_refusals (group (t ∷ keys) ts chunks) frame ≡ first_of_two (flat_map (agg_refusals frame) ts) (repeat_refusal (first_repeat [] (names_of by ++ map name_of ts))) =
+    λ i. first_of_two (n i ++ flat_map (agg_refusals frame) ts) (repeat_refusal (first_repeat [] (sym names i ++ map name_of ts))) in
+    let plain : step_on (group (t ∷ keys) ts chunks) frame ≡ columns_on frame by ts = ap (option_and_then (λ ss. columns_on frame ss ts)) e in
+    rw (refused, plain) m
+
+-- a key's refusal comes first
+pub key_refused : (e : PxError) (frame : List Series) (keys ts : List Tree) (chunks : Option (List ℕ)) → 0 < length keys → IsFirst e (flat_map (key_refusals frame) keys) → IsFirst e (step_refusals (group keys ts chunks) frame)
+key_refused e frame [] ts chunks h f = absurd (omega (arith, h))
+key_refused e frame (t ∷ keys) ts chunks h f = IsFirst_or e _ _ (IsFirst_append e _ (flat_map (agg_refusals frame) ts) f)

@@ -4,3 +4,4 @@ pub mod Taking
 pub mod Separated
 pub mod Named
 pub mod Columns
+pub mod KeyLoop

@@ -1,6 +1,7 @@
 -- Columns that are found by their names, as keys and as what is summed.
-use Rattle.std.proofs.Common.{◌≡◌, ℕ, ◌<◌, Bool, true, false, cond, List, [], ◌∷◌, ◌++◌, Option, Some, None, Result, Ok, Err, length, map, pos, refl, sym, ◌∙◌, ap, arith, option_map, option_and_then}
+use Rattle.std.proofs.Common.{◌≡◌, ℕ, ◌<◌, Bool, true, false, not, ◌&&◌, cond, List, [], ◌∷◌, ◌++◌, Option, Some, None, Result, Ok, Err, length, map, pos, refl, sym, ◌∙◌, ap, arith, option_map, option_and_then}
 use Rattle.std.specs.List.{find}
+use Rattle.std.proofs.lemmas.Bool.Decides.{nat_tests}
 use Rattle.std.proofs.lemmas.List.{length-map}
 use Rattle.px_column.specs.Answer.{Answers, Refuses}
 use Rattle.px_column.specs.Datum.{integer, Slot}
@@ -13,9 +14,11 @@ use Rattle.px_column.specs.declared.error.InvalidWhy.TheVariants.{ListKey, Types
 use Rattle.px_column.specs.declared.method.GroupByMethod.TheVariants.{Sum}
 use Rattle.px_frame.specs.Aggregate.{summed_by, summed_by_kind, sums_of, counts_of, count_column}
 use Rattle.px_frame.specs.Cell.{value_of_cell}
-use Rattle.px_frame.specs.Frame.{has_name, look, height_of, series_at, slots_at, subframe}
+use Rattle.px_frame.specs.Frame.{has_name, has_height, look, height_of, series_at, slots_at, subframe}
 use Rattle.px_frame.specs.Groups.{Group, Groups, rows_of}
-use Rattle.px_plan.specs.Meaning.{name_of, kind_on, value_on}
+use Rattle.px_plan.specs.Meaning.{name_of}
+use Rattle.px_plan.specs.Refusals.{first_of_two}
+use Rattle.px_steps.specs.Built.{is_key}
 use Rattle.px_plan.specs.Tree.{Tree, column, agg, len}
 use Rattle.px_steps.specs.Meets.{IsFirst, Meets}
 use Rattle.px_steps.specs.Plain.{first_of, key_on, key_refusals, list_refusal, aggregated_on, agg_refusals, value_on_part}
@@ -140,3 +143,26 @@ IsFirst_append (ComputeError w) some more h = first_stays some more (ComputeErro
 IsFirst_append OutOfBounds some more h = first_stays some more OutOfBounds h
 IsFirst_append ShapeMismatch some more h = first_stays some more ShapeMismatch h
 IsFirst_append SchemaMismatch some more h = first_stays some more SchemaMismatch h
+
+first_or : (some later : List PxError) (e : PxError) → first_of some ≡ Some e → first_of (first_of_two some later) ≡ Some e
+first_or [] later e h = cc
+first_or (x ∷ xs) later e h = h
+
+-- the first refusal of some is the first where others are only asked in their absence
+pub IsFirst_or : (e : PxError) (some later : List PxError) → IsFirst e some → IsFirst e (first_of_two some later)
+IsFirst_or OutOfMemory some later h = tt
+IsFirst_or (ColumnNotFound n) some later h = first_or some later (ColumnNotFound n) h
+IsFirst_or (Duplicate n) some later h = first_or some later (Duplicate n) h
+IsFirst_or (InvalidOperation w) some later h = first_or some later (InvalidOperation w) h
+IsFirst_or (ComputeError w) some later h = first_or some later (ComputeError w) h
+IsFirst_or OutOfBounds some later h = first_or some later OutOfBounds h
+IsFirst_or ShapeMismatch some later h = first_or some later ShapeMismatch h
+IsFirst_or SchemaMismatch some later h = first_or some later SchemaMismatch h
+
+-- a column that is found can be a key
+pub is_key_found : (frame : List Series) (s : Series) → is_list_kind s.kind ≡ false → length s.slots ≡ height_of frame → is_key frame s ≡ true
+is_key_found frame s l h = let high : has_height (height_of frame) s ≡ true = grind (arith, nat_tests) in λ i. not (l i) && high i
+
+pub frame_has_columns : (n : List ℕ) (frame : List Series) (s : Series) → look n frame ≡ Some s → 0 < length frame
+frame_has_columns n [] s e = cc
+frame_has_columns n (x ∷ frame) s e = omega arith

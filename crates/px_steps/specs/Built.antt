@@ -1,6 +1,9 @@
 -- The steps that are built: groups by columns, with sums of columns and lengths.
-use Rattle.std.specs.Prelude.{Bool, true, false, ◌&&◌, List}
+use Rattle.std.specs.Prelude.{Bool, true, false, ◌&&◌, not, List}
 use Rattle.std.specs.List.{list_all}
+use Rattle.px_column.specs.Series.{Series}
+use Rattle.px_frame.specs.Frame.{has_height, height_of}
+use Rattle.px_frame.specs.Groups.{is_list}
 use Rattle.px_plan.specs.Tree.{Tree, column, agg, len}
 use Rattle.px_steps.specs.Step.{PlainStep, group}
 
@@ -15,3 +18,7 @@ is_built_agg _ = false
 
 abbrev pub is_built : PlainStep → Bool
 is_built (group keys aggs chunks) = list_all is_built_key keys && list_all is_built_agg aggs
+
+-- a column can be a key of a frame: it is no list, and has the frame's height
+abbrev pub is_key : List Series → Series → Bool
+is_key frame s = not (is_list s) && has_height (height_of frame) s

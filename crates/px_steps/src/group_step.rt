@@ -1,29 +1,35 @@
 //! A group step: one row for each part of a frame by keys.
-ghost use Rattle.std.specs.Prelude.{◌≡◌, ◌+◌, ◌<◌, ◌++◌, [], false, length, map, true};
-ghost use Rattle.std.specs.List.{flat_map, list_all, list_any};
+ghost use Rattle.std.specs.Prelude.{◌≡◌, ◌+◌, ◌<◌, ◌++◌, [], None, Ok, IfOk, OnOk, length, map, true};
+ghost use Rattle.std.specs.List.{flat_map, list_all};
+ghost use Rattle.px_column.specs.Answer.{Answers};
 ghost use Rattle.px_column.specs.declared.error.PxError.TheVariants.{ColumnNotFound};
 ghost use Rattle.px_column.specs.declared.method.GroupByMethod.TheVariants.{Sum};
-ghost use Rattle.px_frame.specs.Frame.{all_have_height, first_repeat, height_of, look, names_of};
-ghost use Rattle.px_frame.specs.Groups.{is_list, rows_of};
+ghost use Rattle.px_frame.specs.Frame.{first_repeat, height_of, look, names_of};
+ghost use Rattle.px_frame.specs.Groups.{groups_by, rows_of};
+ghost use Rattle.px_frame.specs.Aggregate.{has_row};
 ghost use Rattle.px_plan.specs.Meaning.{name_of};
 ghost use Rattle.px_plan.specs.Refusals.{first_of_two};
 ghost use Rattle.px_plan.specs.Tree.{column, agg, len};
 ghost use Rattle.px_plan.specs.View.{tree};
-ghost use Rattle.px_steps.specs.Built.{is_built_key, is_built_agg};
+ghost use Rattle.px_steps.specs.Built.{is_built, is_built_key, is_built_agg, is_key};
 ghost use Rattle.px_steps.specs.Form.{each, with_front};
 ghost use Rattle.px_steps.specs.Meets.{Meets, MeetsBy};
-ghost use Rattle.px_steps.specs.Plain.{key_on, key_refusals, aggregated_on, agg_refusals, columns_on, repeat_refusal};
+ghost use Rattle.px_steps.specs.Plain.{key_on, key_refusals, aggregated_on, agg_refusals, columns_on, repeat_refusal, step_on, step_refusals};
+ghost use Rattle.px_steps.specs.Step.{group};
 
-use px_column::{Column, InvalidWhy, Name, Px, PxError, Steps};
+use px_column::{Column, ComputeWhy, InvalidWhy, Name, Px, PxError, Steps};
 use px_frame::{DataFrame, GroupPositions, agg_sum, group_by, key_rows};
 use px_plan::{AggExpr, Expr};
 use std::alloc::Global;
+use std::slice;
 use std::sync::ledger::Ledger;
 
 /// The column of a name, lent, as a key.
 #[tactic(auto, using(crate::proofs::Named::key_found, crate::proofs::Named::key_list, crate::proofs::Named::key_missing))]
 fn key_named<'a>(alloc: Global, frame: &'a DataFrame, name: &Name) -> Px<&'a Column>
-    ensures { MeetsBy (λ c. c.now) result (key_refusals frame.now (column name.now)) (key_on frame.now (column name.now)) }
+    ensures answer { MeetsBy (λ c. c.now) result (key_refusals frame.now (column name.now)) (key_on frame.now (column name.now)) }
+    ensures key { IfOk result (λ c. is_key frame.now c.now ≡ true) }
+    ensures columns { OnOk result (0 < length frame.now) }
 {
     let Some(column) = frame.column(name) else {
         return Err(PxError::ColumnNotFound(name.try_clone(alloc)?));
@@ -37,7 +43,9 @@ fn key_named<'a>(alloc: Global, frame: &'a DataFrame, name: &Name) -> Px<&'a Col
 /// The column that a key names, lent.
 fn key_column<'a>(alloc: Global, frame: &'a DataFrame, key: &Expr) -> Px<&'a Column>
     requires { is_built_key (tree key.now) ≡ true }
-    ensures { MeetsBy (λ c. c.now) result (key_refusals frame.now (tree key.now)) (key_on frame.now (tree key.now)) }
+    ensures answer { MeetsBy (λ c. c.now) result (key_refusals frame.now (tree key.now)) (key_on frame.now (tree key.now)) }
+    ensures key { IfOk result (λ c. is_key frame.now c.now ≡ true) }
+    ensures columns { OnOk result (0 < length frame.now) }
 {
     match key {
         Expr::Column(name) => key_named(alloc, frame, name),
@@ -101,7 +109,10 @@ fn aggregation<L: Ledger>(
 #[tactic(auto, using(crate::proofs::Named::IsFirst_append))]
 fn key_columns(alloc: Global, frame: &DataFrame, keys: &[Expr]) -> Px<Vec<Column>>
     requires { list_all is_built_key (map tree keys.now) ≡ true }
-    ensures { MeetsBy (λ v. v.items) result (flat_map (key_refusals frame.now) (map tree keys.now)) (each (key_on frame.now) (map tree keys.now)) }
+    ensures answer { MeetsBy (λ v. v.items) result (flat_map (key_refusals frame.now) (map tree keys.now)) (each (key_on frame.now) (map tree keys.now)) }
+    ensures keys { IfOk result (λ v. list_all (is_key frame.now) v.items ≡ true) }
+    ensures count { IfOk result (λ v. length v.items ≡ length keys.now) }
+    ensures columns { OnOk result (0 < length keys.now → 0 < length frame.now) }
 {
     let mut columns = Vec::with_capacity(alloc, keys.len())?;
     for key in keys {
@@ -132,6 +143,23 @@ fn push_aggregations<L: Ledger>(
     Ok(())
 }
 
+/// The groups by these columns, of which there is one at least; each has the frame's height and is no
+/// list.
+fn grouping<M: Ledger>(
+    alloc: Global,
+    frame: &DataFrame,
+    by: &[Column],
+    groupings: &mut Steps<M>,
+) -> Px<GroupPositions>
+    requires some { 0 < length by.now }
+    requires keys { list_all (is_key frame.now) by.now ≡ true }
+    ensures groups { Answers result (Ok (groups_by by.now (height_of frame.now))) }
+    ensures rows { IfOk result (λ g. list_all has_row g.groups ≡ true) }
+    ensures grouped { groupings.new ≡ groupings.old + 1 }
+{
+    group_by(alloc, frame.height(), by, groupings)
+}
+
 /// The frame of the groups by these columns, of which there is one at least; each has the frame's
 /// height and is no list.
 fn grouped_frame<L: Ledger, M: Ledger>(
@@ -142,9 +170,8 @@ fn grouped_frame<L: Ledger, M: Ledger>(
     kernels: &mut Steps<L>,
     groupings: &mut Steps<M>,
 ) -> Px<DataFrame>
-    requires keys { 0 < length by.now }
-    requires plain { list_any is_list by.now ≡ false }
-    requires height { all_have_height (height_of frame.now) by.now ≡ true }
+    requires some { 0 < length by.now }
+    requires keys { list_all (is_key frame.now) by.now ≡ true }
     requires columns { 0 < length frame.now }
     requires built { list_all is_built_agg (map tree aggs.now) ≡ true }
     ensures answer { Meets result
@@ -152,8 +179,43 @@ fn grouped_frame<L: Ledger, M: Ledger>(
         (columns_on frame.now by.now (map tree aggs.now)) }
     ensures grouped { groupings.new ≡ groupings.old + 1 }
 {
-    let groups = group_by(alloc, frame.height(), by, groupings)?;
+    let groups = grouping(alloc, frame, by, groupings)?;
     let mut columns = key_rows(alloc, by, &groups)?;
     push_aggregations(alloc, &mut columns, frame, &groups, aggs, kernels)?;
     DataFrame::new(alloc, columns)
+}
+
+/// The frame of the groups by these keys; `NoKey` without one, then the first refusal of a key or an
+/// aggregation from the left, then `Duplicate` with the first name that stands twice.
+pub(crate) fn group_step<L: Ledger, M: Ledger>(
+    alloc: Global,
+    frame: &DataFrame,
+    keys: &[Expr],
+    aggs: &[Expr],
+    kernels: &mut Steps<L>,
+    groupings: &mut Steps<M>,
+) -> Px<DataFrame>
+    requires built { is_built (group (map tree keys.now) (map tree aggs.now) None) ≡ true }
+    ensures answer { Meets result (step_refusals (group (map tree keys.now) (map tree aggs.now) None) frame.now)
+        (step_on (group (map tree keys.now) (map tree aggs.now) None) frame.now) }
+    ensures grouped { OnOk result (groupings.new ≡ groupings.old + 1) }
+{
+    match keys {
+        [] => Err(PxError::ComputeError(ComputeWhy::NoKey)),
+        [key] => {
+            let column = key_column(alloc, frame, key)?;
+            grouped_frame(
+                alloc,
+                frame,
+                slice::from_ref(column),
+                aggs,
+                kernels,
+                groupings,
+            )
+        }
+        _ => {
+            let by = key_columns(alloc, frame, keys)?;
+            grouped_frame(alloc, frame, &by, aggs, kernels, groupings)
+        }
+    }
 }
