@@ -5,3 +5,5 @@ pub mod Separated
 pub mod Named
 pub mod Columns
 pub mod KeyLoop
+pub mod DocumentSteps
+pub mod StepLoop

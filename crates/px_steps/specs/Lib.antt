@@ -10,3 +10,5 @@ pub mod Plain
 pub mod Reply
 pub mod Meets
 pub mod Built
+pub mod Replies
+pub mod DocumentView

@@ -4,6 +4,8 @@ ghost use Rattle.serde_json.specs.Read.{read as read_text};
 ghost use Rattle.serde_json.specs.View.{view};
 ghost use Rattle.px_steps.specs.Document.{Doc, IsDocumentText, doc_view, document_of};
 ghost use Rattle.px_steps.specs.Form.{ReadsBy};
+ghost use Rattle.px_steps.specs.DocumentView.{document_view};
+ghost use Rattle.px_steps.specs.Reply.{IsDocument};
 ghost use Rattle.px_steps.specs.declared.document.fault.DocumentFault.TheVariants.{BadDocument};
 
 mod column;
@@ -15,13 +17,23 @@ mod step;
 #[cfg(test)]
 mod tests;
 
+use crate::step::Step;
 use column::read_columns;
 pub use fault::DocumentFault;
 use fields::{items, two_fields};
-pub use parsed::Parsed;
+use parsed::Parsed;
+use px_column::PxError;
+use px_frame::DataFrame;
 use serde_json::Value;
 use std::alloc::Global;
 use step::read_steps;
+
+/// A frame, and the steps that are done with it.
+#[derive(Drop)]
+pub struct Document {
+    pub frame: DataFrame,
+    pub steps: Vec<Step>,
+}
 
 /// The longest text that is read has one byte less.
 const SIZE_LIMIT: usize = 1 << 26;
@@ -37,7 +49,7 @@ fn read_json(alloc: Global, bytes: &[u8]) -> Result<Value, DocumentFault>
     }
 }
 
-fn read_document(alloc: Global, value: &Value) -> Result<Parsed, DocumentFault>
+fn read_parts(alloc: Global, value: &Value) -> Result<Parsed, DocumentFault>
     ensures { ReadsBy doc_view result (document_of (view value.now)) }
 {
     let fields = two_fields(value, "columns", "steps");
@@ -49,7 +61,7 @@ fn read_document(alloc: Global, value: &Value) -> Result<Parsed, DocumentFault>
 
 /// The columns and steps that a text says: JSON in UTF-8, of fewer than 2^26 bytes, with exactly the
 /// members that are told; else `BadDocument`.
-pub(crate) fn parse_document(alloc: Global, bytes: &[u8]) -> Result<Parsed, DocumentFault>
+fn parse_document(alloc: Global, bytes: &[u8]) -> Result<Parsed, DocumentFault>
     // What is read is what the text says.
     ensures found { IfOk result (λ p. IsDocumentText bytes.now (doc_view p)) }
     // A text that is refused says nothing.
@@ -59,5 +71,22 @@ pub(crate) fn parse_document(alloc: Global, bytes: &[u8]) -> Result<Parsed, Docu
         return Err(DocumentFault::BadDocument);
     }
     let value = read_json(alloc, bytes)?;
-    read_document(alloc, &value)
+    read_parts(alloc, &value)
+}
+
+/// The document that some bytes say: JSON in UTF-8 (RFC 8259), of fewer than 2^26 bytes, with exactly
+/// the members of a document, and columns of distinct names and one length; else `BadDocument`.
+pub fn read_document(alloc: Global, bytes: &[u8]) -> Result<Document, DocumentFault>
+    ensures found { IfOk result (λ d. IsDocument bytes.now (document_view d)) }
+    ensures refused { result ≡ Err BadDocument → (d : Doc) → IsDocument bytes.now d → ⊥ }
+{
+    let parsed = parse_document(alloc, bytes)?;
+    match DataFrame::new(alloc, parsed.columns) {
+        Ok(frame) => Ok(Document {
+            frame,
+            steps: parsed.steps,
+        }),
+        Err(PxError::OutOfMemory) => Err(DocumentFault::OutOfMemory),
+        Err(_) => Err(DocumentFault::BadDocument),
+    }
 }

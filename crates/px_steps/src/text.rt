@@ -5,7 +5,7 @@ mod frame;
 pub(crate) mod json;
 mod value;
 
-pub(crate) use frame::columns_text;
+pub use frame::frame_text;
 
 #[cfg(test)]
 mod tests;

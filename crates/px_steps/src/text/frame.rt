@@ -1,12 +1,14 @@
 //! The text of a frame.
 ghost use Rattle.std.specs.Prelude.{◌≡◌, ◌<◌, [], ◌∷◌, ◌++◌, All, OnOk, Ok, length};
 ghost use Rattle.px_column.specs.Answer.{Answers};
+ghost use Rattle.px_frame.specs.Frame.{height_of};
 ghost use Rattle.px_steps.specs.Text.{names_line, row_line, rows_text, text_of, types_line};
 
 use crate::text::data_type::push_type;
 use crate::text::json::{push_comma, push_quoted};
 use crate::text::value::push_slot;
 use px_column::{ByteString, Column, Px};
+use px_frame::DataFrame;
 use std::alloc::{AllocError, Global};
 
 fn push_line_end(out: &mut Vec<u8>) -> Result<(), AllocError>
@@ -64,7 +66,7 @@ fn push_rows(out: &mut Vec<u8>, columns: &[Column], height: u32) -> Result<(), A
 
 /// The text of a frame of these columns, which have `height` rows each: a line of their names, a line
 /// of their types and a line for each row, each a JSON array (RFC 8259) without spaces.
-pub(crate) fn columns_text(alloc: Global, columns: &[Column], height: u32) -> Px<ByteString>
+fn columns_text(alloc: Global, columns: &[Column], height: u32) -> Px<ByteString>
     requires { All (λ s. length s.slots ≡ height) columns.now }
     ensures { Answers result (Ok (text_of columns.now height)) }
 {
@@ -73,4 +75,12 @@ pub(crate) fn columns_text(alloc: Global, columns: &[Column], height: u32) -> Px
     push_types(&mut out, columns)?;
     push_rows(&mut out, columns, height)?;
     Ok(ByteString::from_vec(out))
+}
+
+/// The text of a frame: a line of its names, a line of its types and a line for each row, each a JSON
+/// array (RFC 8259) without spaces.
+pub fn frame_text(alloc: Global, frame: &DataFrame) -> Px<ByteString>
+    ensures { Answers result (Ok (text_of frame.now (height_of frame.now))) }
+{
+    columns_text(alloc, frame.get_columns(), frame.height())
 }

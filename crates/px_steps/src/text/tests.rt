@@ -1,5 +1,6 @@
-use crate::text::columns_text;
+use crate::text::frame_text;
 use px_column::{ByteString, Column, DataType, Name, Value, Values};
+use px_frame::DataFrame;
 use std::test::Fail;
 
 #[test]
@@ -11,9 +12,8 @@ fn writes_names_types_and_rows_with_escapes(rt: HostRuntime) -> Result<(), Fail>
     let texts = vec![in alloc; Some(escaped), Some(plain)]?;
     let k = Column::from_values(alloc, Name::new(alloc, "k")?, DataType::Int64, numbers)?;
     let s = Column::from_values(alloc, Name::new(alloc, "s")?, DataType::String, texts)?;
-    assert_eq!(rt; k.len(), 2);
-    assert_eq!(rt; s.len(), 2);
-    let written = columns_text(alloc, &[k, s], 2)?;
+    let frame = DataFrame::new(alloc, vec![in alloc; k, s]?)?;
+    let written = frame_text(alloc, &frame)?;
     let expected = r#"["k","s"]
 ["Int64","String"]
 [7,"a\"b\\\u0001\n"]
@@ -36,9 +36,8 @@ fn writes_bytes_in_hexadecimal_and_lists_as_arrays(rt: HostRuntime) -> Result<()
     let b = Column::from_values(alloc, Name::new(alloc, "b")?, DataType::Binary, rows)?;
     let rows = vec![in alloc; Some(list)]?;
     let l = Column::from_values(alloc, Name::new(alloc, "l")?, DataType::List(of), rows)?;
-    assert_eq!(rt; b.len(), 1);
-    assert_eq!(rt; l.len(), 1);
-    let written = columns_text(alloc, &[b, l], 1)?;
+    let frame = DataFrame::new(alloc, vec![in alloc; b, l]?)?;
+    let written = frame_text(alloc, &frame)?;
     let expected = r#"["b","l"]
 ["Binary","List(List(Int64))"]
 ["ab0f",[[-1,null],null,[]]]
@@ -49,7 +48,9 @@ fn writes_bytes_in_hexadecimal_and_lists_as_arrays(rt: HostRuntime) -> Result<()
 
 #[test]
 fn writes_two_empty_lines_without_columns(rt: HostRuntime) -> Result<(), Fail> {
-    let written = columns_text(rt.alloc(), &[], 0)?;
+    let alloc = rt.alloc();
+    let frame = DataFrame::new(alloc, Vec::new(alloc))?;
+    let written = frame_text(alloc, &frame)?;
     assert_eq!(rt; written.as_slice(), b"[]\n[]\n".as_slice());
     Ok(())
 }

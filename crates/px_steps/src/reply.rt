@@ -1,0 +1,68 @@
+//! What is written for an input.
+ghost use Rattle.std.specs.Prelude.{◌≡◌, ℕ, List, IfOk};
+ghost use Rattle.px_frame.specs.Frame.{height_of};
+ghost use Rattle.px_steps.specs.Label.{line_of};
+ghost use Rattle.px_steps.specs.Replies.{Grouped, Replies};
+ghost use Rattle.px_steps.specs.Text.{text_of};
+ghost use Rattle.px_steps.specs.declared.reply.Reply.TheVariants.{Frame, Refusal};
+
+use crate::document::{DocumentFault, read_document};
+use crate::label::error_line;
+use crate::run_steps::run_plain_steps;
+use crate::text::frame_text;
+use px_column::{ByteString, PxError, Steps};
+use px_frame::DataFrame;
+use std::alloc::{AllocError, Global};
+use std::sync::ledger::Ledger;
+
+/// What is written for an input.
+#[derive(Drop)]
+pub(crate) enum Reply {
+    /// The text of the frame that the steps make.
+    Frame(ByteString),
+    /// The line of the first refusal.
+    Refusal(ByteString),
+    /// The line of an input that is no document.
+    BadDocument,
+}
+
+fn frame_reply(alloc: Global, frame: &DataFrame) -> Result<Reply, AllocError>
+    ensures { IfOk result (λ r. (t : List ℕ) × (r ≡ Frame t) × (t ≡ text_of frame.now (height_of frame.now))) }
+{
+    match frame_text(alloc, frame) {
+        Ok(text) => Ok(Reply::Frame(text)),
+        Err(_) => Err(AllocError),
+    }
+}
+
+fn fault_reply(alloc: Global, fault: &PxError) -> Result<Reply, AllocError>
+    ensures { IfOk result (λ r. (t : List ℕ) × (r ≡ Refusal t) × (t ≡ line_of fault.now)) }
+{
+    match error_line(alloc, fault) {
+        Ok(line) => Ok(Reply::Refusal(line)),
+        Err(_) => Err(AllocError),
+    }
+}
+
+/// The text of the frame that the document's steps make, the line of their first refusal, or that
+/// the input is no document.
+pub(crate) fn reply_to<L: Ledger, M: Ledger>(
+    alloc: Global,
+    bytes: &[u8],
+    kernels: &mut Steps<L>,
+    groupings: &mut Steps<M>,
+) -> Result<Reply, AllocError>
+    ensures reply { IfOk result (λ r. Replies bytes.now r) }
+    ensures grouped { IfOk result (λ r. Grouped r groupings.old groupings.new) }
+{
+    let document = match read_document(alloc, bytes) {
+        Ok(document) => document,
+        Err(DocumentFault::BadDocument) => return Ok(Reply::BadDocument),
+        Err(DocumentFault::OutOfMemory) => return Err(AllocError),
+    };
+    match run_plain_steps(alloc, document.frame, &document.steps, kernels, groupings) {
+        Ok(frame) => frame_reply(alloc, &frame),
+        Err(PxError::OutOfMemory) => Err(AllocError),
+        Err(fault) => fault_reply(alloc, &fault),
+    }
+}
