@@ -7,3 +7,5 @@ pub mod Columns
 pub mod KeyLoop
 pub mod DocumentSteps
 pub mod StepLoop
+pub mod Endings
+pub mod Command

@@ -12,3 +12,4 @@ pub mod Meets
 pub mod Built
 pub mod Replies
 pub mod DocumentView
+pub mod Run

@@ -1,0 +1,149 @@
+//! The command `run`: a document is read, its steps are run, and the reply is written.
+ghost use Rattle.std.specs.Prelude.{◌≡◌, ◌≢◌, ◌↔◌, ◌⊎◌, ◌+◌, ◌≤◌, ℕ, List, [], Some, None, IfSome, IsTrue, map, string_bytes};
+ghost use Rattle.px_steps.specs.Document.{Doc};
+ghost use Rattle.px_steps.specs.Ends.{Rose, TakesAll, TakesPart};
+ghost use Rattle.px_steps.specs.Label.{bad_document_line};
+ghost use Rattle.px_steps.specs.Plain.{first_refusal};
+ghost use Rattle.px_steps.specs.Reply.{IsDocument};
+ghost use Rattle.px_steps.specs.Run.{Calm, Ends, IsCommand, Silent};
+
+#[cfg(test)]
+mod tests;
+
+use crate::reply::{Reply, reply_to};
+use crate::sink::Sink;
+use crate::source::Source;
+use crate::status::Status;
+use crate::transfer::{ReadEnd, read_all, write_all};
+use px_column::Steps;
+use std::alloc::Global;
+use std::sync::ledger::Ledger;
+
+fn is_command(words: &[String]) -> bool
+    ensures { IsTrue result ↔ IsCommand (map string_bytes words.now) }
+{
+    match words {
+        [word] => word.as_str() == "run",
+        _ => false,
+    }
+}
+
+fn bad_document_line() -> &'static [u8]
+    ensures { result.now ≡ bad_document_line }
+{
+    b"error: BadDocument\n"
+}
+
+// Writes the text, and tells `done` where all of it was taken.
+fn written<K: Sink>(sink: &mut K, text: &[u8], done: Status) -> Status
+    ensures ends { (result ≡ done) × TakesAll text.now (K.taken sink.old) (K.taken sink.new)
+        ⊎ (result ≡ Status.WriteFault) × TakesPart text.now (K.taken sink.old) (K.taken sink.new)
+        × Rose (K.faults sink.old) (K.faults sink.new) }
+    ensures counted { K.faults sink.old ≤ K.faults sink.new }
+{
+    match write_all(sink, text) {
+        Ok(()) => done,
+        Err(_) => Status::WriteFault,
+    }
+}
+
+// Writes the reply for bytes that were read to their end.
+fn answer<K: Sink, L: Ledger, M: Ledger>(
+    alloc: Global,
+    bytes: &[u8],
+    sink: &mut K,
+    kernels: &mut Steps<L>,
+    groupings: &mut Steps<M>,
+) -> Status
+    ensures ends { Ends result bytes.now (Some []) (K.taken sink.old) (K.taken sink.new) }
+    ensures read { (result ≢ Status.Usage) × (result ≢ Status.ReadFault) }
+    ensures write_fault { result ≡ Status.WriteFault →
+        Rose (K.faults sink.old) (K.faults sink.new) }
+    ensures counted { K.faults sink.old ≤ K.faults sink.new }
+    ensures grouped { result ≡ Status.Done → groupings.new ≡ groupings.old + 1 }
+{
+    match reply_to(alloc, bytes, kernels, groupings) {
+        Ok(Reply::Frame(text)) => written(sink, text.as_slice(), Status::Done),
+        Ok(Reply::Refusal(text)) => written(sink, text.as_slice(), Status::Refused),
+        Ok(Reply::BadDocument) => written(sink, bad_document_line(), Status::BadDocument),
+        Err(_) => Status::OutOfMemory,
+    }
+}
+
+// Reads the document and writes the reply.
+fn run_command<S: Source, K: Sink, L: Ledger, M: Ledger>(
+    alloc: Global,
+    source: &mut S,
+    sink: &mut K,
+    kernels: &mut Steps<L>,
+    groupings: &mut Steps<M>,
+) -> Status
+    ensures ends { IfSome (S.left source.old) (λ b.
+        Ends result b (S.left source.new) (K.taken sink.old) (K.taken sink.new)) }
+    ensures silent { Silent result (K.taken sink.old) (K.taken sink.new) }
+    ensures command { result ≢ Status.Usage }
+    ensures read_fault { result ≡ Status.ReadFault →
+        Rose (S.faults source.old) (S.faults source.new) }
+    ensures write_fault { result ≡ Status.WriteFault →
+        Rose (K.faults sink.old) (K.faults sink.new) }
+    ensures read_counted { S.faults source.old ≤ S.faults source.new }
+    ensures write_counted { K.faults sink.old ≤ K.faults sink.new }
+    ensures grouped { result ≡ Status.Done → groupings.new ≡ groupings.old + 1 }
+{
+    match read_all(alloc, source) {
+        Ok(bytes) => answer(alloc, &bytes, sink, kernels, groupings),
+        Err(ReadEnd::TooLong) => written(sink, bad_document_line(), Status::BadDocument),
+        Err(ReadEnd::Failed) => Status::ReadFault,
+        Err(ReadEnd::OutOfMemory) => Status::OutOfMemory,
+    }
+}
+
+/// What the program does with its words. Where they are exactly the one word `run`: it reads the
+/// source to its end as one document and writes the text of the frame that the document's steps make
+/// (`Done`), the line of the first refusal (`Refused`), or the line of a bad document
+/// (`BadDocument`), which 2^26 bytes and more are too, of which that many are read. The text is
+/// complete before the first of it is written. `ReadFault`, `WriteFault` and `OutOfMemory` tell why
+/// it stopped; it tries nothing again. With other words it touches nothing and tells `Usage`.
+pub fn run<S: Source, K: Sink, L: Ledger, M: Ledger>(
+    alloc: Global,
+    words: &[String],
+    source: &mut S,
+    sink: &mut K,
+    kernels: &mut Steps<L>,
+    groupings: &mut Steps<M>,
+) -> Status
+    // `Usage` is told exactly for other words, and then nothing is touched.
+    ensures usage { (result ≡ Status.Usage) ↔ (¬ IsCommand (map string_bytes words.now)) }
+    ensures untouched { result ≡ Status.Usage →
+        (source.new ≡ source.old) × (sink.new ≡ sink.old)
+        × (kernels.new ≡ kernels.old) × (groupings.new ≡ groupings.old) }
+    // What was read and written, where the source tells its bytes.
+    ensures ends { IfSome (S.left source.old) (λ b.
+        Ends result b (S.left source.new) (K.taken sink.old) (K.taken sink.new)) }
+    // What was not written, whatever the source tells.
+    ensures silent { Silent result (K.taken sink.old) (K.taken sink.new) }
+    // No fault is told that was not there.
+    ensures read_fault { result ≡ Status.ReadFault →
+        Rose (S.faults source.old) (S.faults source.new) }
+    ensures write_fault { result ≡ Status.WriteFault →
+        Rose (K.faults sink.old) (K.faults sink.new) }
+    ensures read_counted { S.faults source.old ≤ S.faults source.new }
+    ensures write_counted { K.faults sink.old ≤ K.faults sink.new }
+    // A document with no refusal is done, where no read and no write fails and memory is not wanting.
+    ensures complete { (b : List ℕ) (doc : Doc) →
+        S.left source.old ≡ Some b →
+        IsDocument b doc →
+        first_refusal doc.steps doc.columns ≡ None →
+        IsCommand (map string_bytes words.now) →
+        Calm (S.faults source.old) (S.faults source.new) →
+        Calm (K.faults sink.old) (K.faults sink.new) →
+        (result ≡ Status.Done) ⊎ (result ≡ Status.OutOfMemory) }
+    // A frame is made by one grouping.
+    ensures grouped { result ≡ Status.Done → groupings.new ≡ groupings.old + 1 }
+{
+    if is_command(words) {
+        run_command(alloc, source, sink, kernels, groupings)
+    } else {
+        Status::Usage
+    }
+}
