@@ -1,7 +1,7 @@
 -- The value of an expression on a frame, its name and its type.
-use Rattle.std.specs.Prelude.{ℕ, pos, List, Option, Some, None, codes, option_map, option_and_then}
+use Rattle.std.specs.Prelude.{ℕ, pos, List, Option, Some, codes, option_map, option_and_then}
 use Rattle.px_column.specs.Datum.{integer, Slot}
-use Rattle.px_column.specs.Kind.{Kind, uint32s, lists}
+use Rattle.px_column.specs.Kind.{Kind, uint32s}
 use Rattle.px_column.specs.Series.{Series}
 use Rattle.px_column.specs.Sum.{sum_kind, summed}
 use Rattle.px_column.specs.declared.method.GroupByMethod.{GroupByMethod}

@@ -1,13 +1,12 @@
 -- Why an expression is refused before it is evaluated.
-use Rattle.std.specs.Prelude.{List, [], ◌∷◌, ◌++◌, Option, Some, None, option_and_then}
-use Rattle.px_column.specs.Kind.{Kind}
+use Rattle.std.specs.Prelude.{List, [], ◌∷◌, Option, Some, None, option_and_then}
 use Rattle.px_column.specs.Series.{Series}
 use Rattle.px_column.specs.declared.error.PxError.{PxError}
 use Rattle.px_column.specs.declared.error.PxError.TheVariants.{ColumnNotFound, InvalidOperation, ComputeError}
 use Rattle.px_column.specs.declared.error.InvalidWhy.TheVariants.{Types}
 use Rattle.px_column.specs.declared.error.ComputeWhy.TheVariants.{AggScalar}
 use Rattle.px_frame.specs.Frame.{look}
-use Rattle.px_plan.specs.Meaning.{Shape, one, many, shape_of, kind_on, reduced_kind}
+use Rattle.px_plan.specs.Meaning.{Shape, one, shape_of, kind_on, reduced_kind}
 use Rattle.px_plan.specs.Tree.{Tree, column, agg, len}
 
 -- the whole frame, or each group of its rows

@@ -4,7 +4,6 @@ use Rattle.std.specs.List.{list_all, list_any, flat_map}
 use Rattle.std.proofs.lemmas.Bool.Decides.{nat_tests}
 use Rattle.std.proofs.lemmas.List.{length-map}
 use Rattle.px_column.specs.Answer.{Answers, Refuses}
-use Rattle.px_column.specs.Kind.{Kind}
 use Rattle.px_column.specs.Series.{Series, slot_at}
 use Rattle.px_column.specs.declared.error.PxError.{PxError}
 use Rattle.px_column.specs.declared.error.PxError.TheVariants.{Duplicate, ShapeMismatch, InvalidOperation}

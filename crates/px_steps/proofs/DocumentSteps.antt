@@ -1,11 +1,10 @@
 -- The steps of a document are of the forms that are built.
-use Rattle.std.proofs.Common.{◌≡◌, ℕ, Bool, true, false, ◌&&◌, ◌==◌, cond, arith, codes, List, [], ◌∷◌, Option, Some, None, length, refl, sym, ◌∙◌, ap, option_map, option_and_then}
+use Rattle.std.proofs.Common.{◌≡◌, ℕ, Bool, true, false, ◌&&◌, ◌==◌, cond, arith, codes, List, [], ◌∷◌, Option, Some, None, length, refl, sym, ◌∙◌, ap, option_map}
 use Rattle.std.specs.List.{list_all}
 use Rattle.std.proofs.lemmas.Bool.Decides.{nat_tests}
 use Rattle.serde_json.specs.Data.{Data}
 use Rattle.serde_json.specs.Find.{as_null, as_str}
 use Rattle.serde_json.specs.Read.{read}
-use Rattle.px_column.specs.Series.{Series}
 use Rattle.px_column.specs.declared.method.GroupByMethod.{GroupByMethod}
 use Rattle.px_plan.specs.Tree.{Tree, column, agg, len}
 use Rattle.px_steps.specs.Built.{is_built, is_built_key, is_built_agg}

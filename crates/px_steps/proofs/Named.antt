@@ -1,10 +1,10 @@
 -- Columns that are found by their names, as keys and as what is summed.
-use Rattle.std.proofs.Common.{◌≡◌, ℕ, ◌<◌, Bool, true, false, not, ◌&&◌, cond, List, [], ◌∷◌, ◌++◌, Option, Some, None, Result, Ok, Err, length, map, pos, refl, sym, ◌∙◌, ap, arith, option_map, option_and_then}
+use Rattle.std.proofs.Common.{◌≡◌, ℕ, ◌<◌, Bool, true, false, not, ◌&&◌, cond, List, [], ◌∷◌, ◌++◌, Option, Some, None, Result, Ok, Err, length, map, pos, refl, sym, ◌∙◌, ap, arith, option_map}
 use Rattle.std.specs.List.{find}
 use Rattle.std.proofs.lemmas.Bool.Decides.{nat_tests}
 use Rattle.std.proofs.lemmas.List.{length-map}
 use Rattle.px_column.specs.Answer.{Answers, Refuses}
-use Rattle.px_column.specs.Datum.{integer, Slot}
+use Rattle.px_column.specs.Datum.{integer}
 use Rattle.px_column.specs.Kind.{Kind, booleans, int8s, int16s, int32s, int64s, uint8s, uint16s, uint32s, uint64s, strings, binaries, nulls, lists, is_list_kind}
 use Rattle.px_column.specs.Series.{Series, slot_at}
 use Rattle.px_column.specs.Sum.{sum_kind, summed}
@@ -12,14 +12,13 @@ use Rattle.px_column.specs.declared.error.PxError.{PxError}
 use Rattle.px_column.specs.declared.error.PxError.TheVariants.{ColumnNotFound, Duplicate, InvalidOperation, ComputeError, OutOfBounds, ShapeMismatch, SchemaMismatch, OutOfMemory}
 use Rattle.px_column.specs.declared.error.InvalidWhy.TheVariants.{ListKey, Types}
 use Rattle.px_column.specs.declared.method.GroupByMethod.TheVariants.{Sum}
-use Rattle.px_frame.specs.Aggregate.{summed_by, summed_by_kind, sums_of, counts_of, count_column}
-use Rattle.px_frame.specs.Cell.{value_of_cell}
+use Rattle.px_frame.specs.Aggregate.{summed_by, summed_by_kind, sums_of, counts_of}
 use Rattle.px_frame.specs.Frame.{has_name, has_height, look, height_of, series_at, slots_at, subframe}
 use Rattle.px_frame.specs.Groups.{Group, Groups, rows_of}
 use Rattle.px_plan.specs.Meaning.{name_of}
 use Rattle.px_plan.specs.Refusals.{first_of_two}
 use Rattle.px_steps.specs.Built.{is_key}
-use Rattle.px_plan.specs.Tree.{Tree, column, agg, len}
+use Rattle.px_plan.specs.Tree.{column, agg, len}
 use Rattle.px_steps.specs.Meets.{IsFirst, Meets}
 use Rattle.px_steps.specs.Plain.{first_of, key_on, key_refusals, list_refusal, aggregated_on, agg_refusals, value_on_part}
 

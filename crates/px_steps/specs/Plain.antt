@@ -15,7 +15,7 @@ use Rattle.px_frame.specs.Groups.{first_row}
 use Rattle.px_frame.specs.Parts.{parts_of}
 use Rattle.px_plan.specs.Meaning.{Shape, one, many, shape_of, name_of, kind_on, value_on}
 use Rattle.px_plan.specs.Refusals.{refusals_of, first_of_two, frame_place, groups_place}
-use Rattle.px_plan.specs.Tree.{Tree, column, agg, len}
+use Rattle.px_plan.specs.Tree.{Tree}
 use Rattle.px_steps.specs.Form.{each, with_front}
 use Rattle.px_steps.specs.Step.{PlainStep, group}
 

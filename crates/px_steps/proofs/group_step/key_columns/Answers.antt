@@ -1,4 +1,4 @@
-use Rattle.std.proofs.Common.{◌≡◌, ◌++◌, ◌∷◌, [], ◌∙◌, ap, arith, List}
+use Rattle.std.proofs.Common.{◌≡◌, ◌++◌, ◌∷◌, [], ◌∙◌, ap}
 use Rattle.px_column.specs.Series.{Series}
 use Rattle.px_steps.proofs.KeyLoop.{built_next, refused_next, made_next, fit_next, length_next}
 use Rattle.px_steps.proofs.group_step.key_columns.Goals as goal

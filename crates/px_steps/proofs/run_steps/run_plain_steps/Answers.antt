@@ -1,5 +1,5 @@
 use Rattle.std.proofs.Common.{arith}
-use Rattle.px_steps.proofs.StepLoop.{built_next, refused_next, plain_next, first_refused}
+use Rattle.px_steps.proofs.StepLoop.{built_next, refused_next, plain_next}
 use Rattle.px_steps.proofs.run_steps.run_plain_steps.Goals as goal
 
 pub loop-step-preserved : goal.loop-step-preserved
