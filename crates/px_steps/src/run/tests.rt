@@ -7,6 +7,8 @@ use std::marker::Brand;
 use std::sync::ledger::Blank;
 use std::test::Fail;
 
+mod rows;
+
 const VALID: &str =
     r#"{"columns":[{"name":"k","type":"Int64","values":[7,9,7]}],"steps":[{"group":{"keys":[{"col":"k"}],"aggs":[{"len":null}],"chunks":null}}]}"#;
 

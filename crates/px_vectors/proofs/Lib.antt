@@ -1,0 +1,9 @@
+pub mod PlainRows
+pub mod PlainColumns
+pub mod PlainKeys
+pub mod Told
+pub mod PlainParts
+pub mod PlainValues
+pub mod EachMade
+pub mod PlainNames
+pub mod PlainAnswer

@@ -1,0 +1,75 @@
+-- The names and the height of the columns that a group step makes.
+use Rattle.std.proofs.Common.{◌≡◌, ℕ, true, ◌&&◌, List, [], ◌∷◌, ◌++◌, Option, Some, None, length, map, refl, ◌∙◌, ap, arith, option_map, option_and_then}
+use Rattle.std.proofs.lemmas.Bool.Decides.{nat_tests}
+use Rattle.std.proofs.lemmas.List.{length-map, map-append}
+use Rattle.std.proofs.lemmas.List.Folds.{list_all-append}
+use Rattle.px_column.specs.Datum.{Slot}
+use Rattle.px_column.specs.Kind.{Kind}
+use Rattle.px_column.specs.Series.{Series, slot_at}
+use Rattle.px_frame.specs.Cell.{Cell}
+use Rattle.px_frame.specs.Frame.{all_have_height, has_height, height_of, is_even, names_of}
+use Rattle.px_frame.specs.Groups.{first_row}
+use Rattle.px_frame.proofs.Each.{both}
+use Rattle.px_plan.specs.Meaning.{kind_on, name_of, shape_of, value_on}
+use Rattle.px_plan.specs.Tree.{Tree}
+use Rattle.px_steps.specs.Form.{each}
+use Rattle.px_steps.specs.Plain.{aggregated_on, grouped_kind, key_on, key_values, spread, value_on_part}
+use Rattle.px_vectors.proofs.EachMade.{each_maps, each_passes}
+
+key_name : (n : List ℕ) (h : ℕ) (k : Option Kind) (v : Option Cell) (s : Series) → option_and_then (λ j. option_map (λ c. record { name = n; kind = j; slots = spread h c }) v) k ≡ Some s → s.name ≡ n
+key_name n h None v s e = cc
+key_name n h (Some k) None s e = cc
+key_name n h (Some k) (Some c) s e = let same : s ≡ record { name = n; kind = k; slots = spread h c } = cc in ap (λ t. t.name) same
+
+pub key_names : (frame : List Series) (keys : List Tree) (by : List Series) → each (key_on frame) keys ≡ Some by → names_of by ≡ map name_of keys
+key_names frame keys by = each_maps (key_on frame) (λ s. s.name) name_of (λ e s. key_name (name_of e) (height_of frame) (kind_on e frame) (value_on e frame) s) keys by
+
+has_length : (n : ℕ) (s : Series) → length s.slots ≡ n → has_height n s ≡ true
+has_length n s h = grind (arith, nat_tests)
+
+all_append : (n : ℕ) (xs ys : List Series) → all_have_height n xs ≡ true → all_have_height n ys ≡ true → all_have_height n (xs ++ ys) ≡ true
+all_append n xs ys h k = list_all-append (has_height n) xs ys ∙ (λ i. h i && k i)
+
+-- columns of one height
+as_tall : (n : ℕ) (columns : List Series) → all_have_height n columns ≡ true → is_even columns ≡ true
+as_tall n [] h = refl
+as_tall n (s ∷ columns) h =
+    let first : has_height n s ≡ true = (both (has_height n s) (all_have_height n columns) h).0 in
+    let same : length s.slots ≡ n = grind (arith, nat_tests) in
+    ap (λ m. all_have_height m (s ∷ columns)) same ∙ h
+
+module _ (frame : List Series) (ps : List (List ℕ)) where
+  record IsAggregated (n : List ℕ) (s : Series) : Type 0 where
+    named : s.name ≡ n
+    tall : length s.slots ≡ length ps
+
+  one_aggregated : (n : List ℕ) (f : Kind → Kind) (value : List ℕ → Slot) (k : Option Kind) (s : Series) → option_map (λ j. record { name = n; kind = f j; slots = map value ps }) k ≡ Some s → IsAggregated n s
+  one_aggregated n f value None s e = cc
+  one_aggregated n f value (Some k) s e =
+      let same : s ≡ record { name = n; kind = f k; slots = map value ps } = cc in
+      record { named = ap (λ t. t.name) same; tall = ap (λ t. length t.slots) same ∙ length-map ps value }
+
+  aggregated : (e : Tree) (s : Series) → aggregated_on frame ps e ≡ Some s → IsAggregated (name_of e) s
+  aggregated e s h = one_aggregated (name_of e) (grouped_kind (shape_of e)) (value_on_part frame e) (kind_on e frame) s h
+
+  agg_names : (aggs : List Tree) (values : List Series) → each (aggregated_on frame ps) aggs ≡ Some values → names_of values ≡ map name_of aggs
+  agg_names aggs values = each_maps (aggregated_on frame ps) (λ s. s.name) name_of (λ e s h. (aggregated e s h).named) aggs values
+
+  aggs_tall : (aggs : List Tree) (values : List Series) → each (aggregated_on frame ps) aggs ≡ Some values → all_have_height (length ps) values ≡ true
+  aggs_tall aggs values = each_passes (aggregated_on frame ps) (has_height (length ps)) (λ e s h. has_length (length ps) s (aggregated e s h).tall) aggs values
+
+  keys_named : (by : List Series) → names_of (map (key_values ps) by) ≡ names_of by
+  keys_named [] = refl
+  keys_named (s ∷ by) = ap (λ ns. s.name ∷ ns) (keys_named by)
+
+  keys_tall : (by : List Series) → all_have_height (length ps) (map (key_values ps) by) ≡ true
+  keys_tall [] = refl
+  keys_tall (s ∷ by) = λ i. has_length (length ps) (key_values ps s) (length-map ps (λ p. slot_at s.slots (first_row p))) i && keys_tall by i
+
+  -- the columns of keys and aggregations
+  module _ (keys aggs : List Tree) (by values : List Series) (k : each (key_on frame) keys ≡ Some by) (a : each (aggregated_on frame ps) aggs ≡ Some values) where
+    pub made_names : names_of (map (key_values ps) by ++ values) ≡ map name_of keys ++ map name_of aggs
+    made_names = map-append (λ (s : Series). s.name) (map (key_values ps) by) values ∙ (λ i. (keys_named by ∙ key_names frame keys by k) i ++ agg_names aggs values a i)
+
+    pub made_even : is_even (map (key_values ps) by ++ values) ≡ true
+    made_even = as_tall (length ps) (map (key_values ps) by ++ values) (all_append (length ps) (map (key_values ps) by) values (keys_tall by) (aggs_tall aggs values a))

@@ -1,0 +1,15 @@
+//! Worked examples of what frames, steps and texts mean, and plain programs that do what the definitions say.
+#![tactic(auto)]
+
+mod plain;
+mod plain_step;
+mod worked;
+
+pub use plain::plain_parts;
+pub use plain_step::{Aggregation, plain_group_step};
+pub use worked::{
+    worked_documents, worked_lines, worked_parts, worked_refusals, worked_steps, worked_texts,
+};
+
+#[cfg(test)]
+mod tests;
