@@ -39,22 +39,20 @@ fn sum(alloc: Global, column: &Column) -> Px<Option<i128>> {
 }
 
 #[test]
-fn a_name_and_its_copy_are_the_text(rt: HostRuntime) -> Result<(), Fail> {
+fn a_copy_takes_another_name(rt: HostRuntime) -> Result<(), Fail> {
     let alloc = rt.alloc();
-    let copy = Name::new(alloc, "ab")?.try_clone(alloc)?;
-    assert_eq!(rt; copy.as_str(), "ab");
-    let bytes = ByteString::from_slice(alloc, b"hi")?;
-    assert_eq!(rt; bytes.as_slice(), b"hi".as_slice());
+    let name = Name::new(alloc, "y")?.try_clone(alloc)?;
+    let column = pair(alloc, DataType::Int64, Some(4), None)?;
+    let copy = column.try_clone(alloc)?.with_name(name);
+    assert_eq!(rt; copy.name().as_str(), "y");
+    assert_eq!(rt; copy.null_count(), 1);
     Ok(())
 }
 
 #[test]
-fn a_column_holds_its_values(rt: HostRuntime) -> Result<(), Fail> {
-    let alloc = rt.alloc();
-    let column = pair(alloc, DataType::Int64, None, Some(6))?;
-    assert_eq!(rt; column.null_count(), 1);
-    assert_eq!(rt; column.len(), 2);
-    assert_eq!(rt; integer(column.get(1)), Some(6));
+fn bytes_are_copied(rt: HostRuntime) -> Result<(), Fail> {
+    let bytes = ByteString::from_slice(rt.alloc(), b"hi")?;
+    assert_eq!(rt; bytes.as_slice(), b"hi".as_slice());
     Ok(())
 }
 
@@ -69,49 +67,18 @@ fn rows_are_taken_in_the_order_asked(rt: HostRuntime) -> Result<(), Fail> {
     let alloc = rt.alloc();
     let column = pair(alloc, DataType::Int64, Some(4), Some(5))?;
     let taken = column.take(alloc, &[Some(1), None])?;
-    assert_eq!(rt; taken.len(), 2);
-    assert_eq!(rt; integer(taken.get(0)), Some(5));
-    assert_eq!(rt; integer(taken.get(1)), None);
-    Ok(())
-}
-
-#[test]
-fn a_row_past_the_end_is_not_taken(rt: HostRuntime) -> Result<(), Fail> {
-    let alloc = rt.alloc();
-    let column = pair(alloc, DataType::Int64, Some(4), Some(5))?;
+    assert_eq!(rt; taken.null_count(), 1);
+    assert_eq!(rt; taken.total_at(&[0, 0, 1]), 10);
     assert!(rt; matches!(column.take(alloc, &[Some(2)]), Err(PxError::OutOfBounds)));
     Ok(())
 }
 
 #[test]
-fn a_copy_takes_another_name(rt: HostRuntime) -> Result<(), Fail> {
+fn sums_wrap_in_the_type_of_the_result(rt: HostRuntime) -> Result<(), Fail> {
     let alloc = rt.alloc();
-    let column = pair(alloc, DataType::Int64, Some(4), None)?;
-    let copy = column.try_clone(alloc)?.with_name(Name::new(alloc, "y")?);
-    assert_eq!(rt; copy.name().as_str(), "y");
-    assert_eq!(rt; copy.null_count(), 1);
-    Ok(())
-}
-
-#[test]
-fn rows_are_summed_as_often_as_named(rt: HostRuntime) -> Result<(), Fail> {
-    let column = pair(rt.alloc(), DataType::Int64, Some(4), Some(5))?;
-    assert_eq!(rt; column.total_at(&[1, 1]), 10);
-    Ok(())
-}
-
-#[test]
-fn a_sum_wraps_in_64_bits(rt: HostRuntime) -> Result<(), Fail> {
-    let alloc = rt.alloc();
-    let column = pair(alloc, DataType::Int64, Some(i64::MAX as i128), Some(1))?;
-    assert_eq!(rt; sum(alloc, &column)?, Some(i64::MIN as i128));
-    Ok(())
-}
-
-#[test]
-fn a_sum_of_small_integers_is_wider(rt: HostRuntime) -> Result<(), Fail> {
-    let alloc = rt.alloc();
-    let column = pair(alloc, DataType::UInt8, Some(200), Some(100))?;
-    assert_eq!(rt; sum(alloc, &column)?, Some(300));
+    let large = pair(alloc, DataType::Int64, Some(i64::MAX as i128), Some(1))?;
+    assert_eq!(rt; sum(alloc, &large)?, Some(i64::MIN as i128));
+    let small = pair(alloc, DataType::UInt8, Some(200), Some(100))?;
+    assert_eq!(rt; sum(alloc, &small)?, Some(300));
     Ok(())
 }
