@@ -9,6 +9,8 @@ mod method;
 mod name;
 mod row_key;
 mod steps;
+#[cfg(test)]
+mod tests;
 mod value;
 mod value_ref;
 

@@ -1,0 +1,84 @@
+ghost use Rattle.std.specs.Prelude.{◌≡◌, ◌<◌};
+
+use super::*;
+use std::alloc::Global;
+use std::marker::Brand;
+use std::sync::ledger::{Blank, Ledger};
+use std::test::Fail;
+
+fn pair(alloc: Global, dtype: DataType, first: Option<i128>, second: Option<i128>) -> Px<Column> {
+    let mut rows = Vec::new(alloc);
+    rows.push(first.map(Value::Int))?;
+    rows.push(second.map(Value::Int))?;
+    Column::from_values(alloc, Name::new(alloc, "x")?, dtype, rows)
+}
+
+fn integer(slot: Option<ValueRef<'_>>) -> Option<i128> {
+    match slot {
+        Some(ValueRef::Int(z)) => Some(z),
+        _ => None,
+    }
+}
+
+fn counted_sum<L: Ledger>(alloc: Global, column: &Column, blank: Blank) -> Px<Column>
+    requires name { blank.name ≡ L.name }
+    requires parts { blank.parts ≡ L.parts }
+    requires some { 0 < blank.parts }
+{
+    let mut kernels = Steps::<L>::new(blank);
+    column.reduce(alloc, GroupByMethod::Sum, &mut kernels)
+}
+
+fn sum(alloc: Global, column: &Column) -> Px<Option<i128>> {
+    let total = counted_sum::<Brand>(alloc, column, Blank::new(1))?;
+    if total.len() == 1 {
+        Ok(integer(total.get(0)))
+    } else {
+        Err(PxError::ShapeMismatch)
+    }
+}
+
+#[test]
+fn a_copy_takes_another_name(rt: HostRuntime) -> Result<(), Fail> {
+    let alloc = rt.alloc();
+    let name = Name::new(alloc, "y")?.try_clone(alloc)?;
+    let column = pair(alloc, DataType::Int64, Some(4), None)?;
+    let copy = column.try_clone(alloc)?.with_name(name);
+    assert_eq!(rt; copy.name().as_str(), "y");
+    assert_eq!(rt; copy.null_count(), 1);
+    Ok(())
+}
+
+#[test]
+fn bytes_are_copied(rt: HostRuntime) -> Result<(), Fail> {
+    let bytes = ByteString::from_slice(rt.alloc(), b"hi")?;
+    assert_eq!(rt; bytes.as_slice(), b"hi".as_slice());
+    Ok(())
+}
+
+#[test]
+fn a_value_that_does_not_fit_is_refused(rt: HostRuntime) {
+    let refused = pair(rt.alloc(), DataType::Int8, Some(1), Some(200));
+    assert!(rt; matches!(refused, Err(PxError::InvalidOperation(InvalidWhy::Types))));
+}
+
+#[test]
+fn rows_are_taken_in_the_order_asked(rt: HostRuntime) -> Result<(), Fail> {
+    let alloc = rt.alloc();
+    let column = pair(alloc, DataType::Int64, Some(4), Some(5))?;
+    let taken = column.take(alloc, &[Some(1), None])?;
+    assert_eq!(rt; taken.null_count(), 1);
+    assert_eq!(rt; taken.total_at(&[0, 0, 1]), 10);
+    assert!(rt; matches!(column.take(alloc, &[Some(2)]), Err(PxError::OutOfBounds)));
+    Ok(())
+}
+
+#[test]
+fn sums_wrap_in_the_type_of_the_result(rt: HostRuntime) -> Result<(), Fail> {
+    let alloc = rt.alloc();
+    let large = pair(alloc, DataType::Int64, Some(i64::MAX as i128), Some(1))?;
+    assert_eq!(rt; sum(alloc, &large)?, Some(i64::MIN as i128));
+    let small = pair(alloc, DataType::UInt8, Some(200), Some(100))?;
+    assert_eq!(rt; sum(alloc, &small)?, Some(300));
+    Ok(())
+}
