@@ -5,6 +5,8 @@ mod aggregate;
 mod frame;
 mod grouping;
 mod groups;
+#[cfg(test)]
+mod tests;
 
 pub use aggregate::{agg_sum, key_rows};
 pub use frame::DataFrame;
