@@ -5,12 +5,7 @@ set -eu
 export LC_ALL=C
 cd "$(dirname "$0")/.."
 rows=${1:-1000000} keys=${2:-1000}
-if [ -z "${PX:-}" ]; then
-    ./px run < examples/sum_and_length.json > /dev/null
-    PX=crates/px_program/out/px_program
-fi
-work=$(mktemp -d)
-trap 'rm -rf "$work"' EXIT
+. bench/prepare.sh
 
 # A peer's answer has a line [key,sum,rows] for each group, in any order.
 compare() {
