@@ -7,6 +7,7 @@ use std::marker::Brand;
 use std::sync::ledger::Blank;
 use std::test::Fail;
 
+mod faults;
 mod rows;
 
 const VALID: &str =
