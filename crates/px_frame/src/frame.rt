@@ -1,6 +1,6 @@
 //! Frames: columns with distinct names and of one height.
-ghost use Rattle.std.specs.Prelude.{◌≡◌, ◌<◌, ◌^◌, ◌++◌, ◌∷◌, [], Ok, Err, OnOk, IfSome, true, List, map, option_map, length, vec_len, if◌then◌else◌};
-ghost use Rattle.std.specs.List.{list_any};
+ghost use Rattle.std.specs.Prelude.{◌≡◌, ◌<◌, ◌≤◌, ◌+◌, ◌^◌, ◌++◌, ◌∷◌, [], Ok, Err, OnOk, IfSome, true, List, map, option_map, length, vec_len, if◌then◌else◌};
+ghost use Rattle.std.specs.List.{list_any, range_with_len};
 ghost use Rattle.px_column.specs.Answer.{Answers, AnswersBy};
 ghost use Rattle.px_column.specs.Column.{all_within};
 ghost use Rattle.px_column.specs.declared.error.PxError.TheVariants.{Duplicate};
@@ -131,6 +131,24 @@ impl DataFrame {
         let indices = all_some(alloc, rows)?;
         DataFrame::new(alloc, take_columns(alloc, &self.columns, &indices)?)
     }
+
+    /// The `length` rows from `offset` on, all of which are there (polars `slice`).
+    pub fn slice(&self, alloc: Global, offset: u32, length: u32) -> Px<DataFrame>
+        requires { offset + length ≤ height_of self.now }
+        ensures { Answers result (Ok (subframe self.now (range_with_len offset length))) }
+    {
+        let height = self.height();
+        prove!(length <= height && offset <= height - length);
+        let rows = rows_from(alloc, offset, length)?;
+        self.take_rows(alloc, &rows)
+    }
+
+    /// An equal frame.
+    pub fn try_clone(&self, alloc: Global) -> Px<DataFrame>
+        ensures { Answers result (Ok self.now) }
+    {
+        DataFrame::new(alloc, copy_columns(alloc, &self.columns)?)
+    }
 }
 
 fn take_column(alloc: Global, column: &Column, indices: &[Option<u32>]) -> Px<Column>
@@ -166,4 +184,26 @@ fn all_some(alloc: Global, rows: &[u32]) -> Px<Vec<Option<u32>>>
         indices.push(Some(*row))?;
     }
     Ok(indices)
+}
+
+/// `length` row numbers from `offset` on.
+fn rows_from(alloc: Global, offset: u32, length: u32) -> Px<Vec<u32>>
+    requires { offset + length < 2 ^ 32 }
+    ensures { AnswersBy (λ v. v.items) result (Ok (range_with_len offset length)) }
+{
+    let mut rows = Vec::with_capacity(alloc, length as usize)?;
+    for index in 0..length {
+        rows.push(offset + index)?;
+    }
+    Ok(rows)
+}
+
+fn copy_columns(alloc: Global, columns: &[Column]) -> Px<Vec<Column>>
+    ensures { AnswersBy (λ v. v.items) result (Ok columns.now) }
+{
+    let mut copies = Vec::with_capacity(alloc, columns.len())?;
+    for column in columns {
+        copies.push(column.try_clone(alloc)?)?;
+    }
+    Ok(copies)
 }
