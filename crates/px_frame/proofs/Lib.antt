@@ -5,6 +5,7 @@ pub mod Started
 pub mod Bounds
 pub mod Keys
 pub mod Ranges
+pub mod Fields
 pub mod Built
 pub mod Each
 pub mod Made

@@ -5,7 +5,9 @@ ghost use Rattle.px_column.specs.Answer.{Answers, AnswersBy};
 ghost use Rattle.px_column.specs.Column.{all_within};
 ghost use Rattle.px_column.specs.declared.error.PxError.TheVariants.{Duplicate};
 ghost use Rattle.px_frame.specs.Frame.{look, height_of, frame_of, first_repeat, all_have_height, names_of, name_eq, unless_repeated, subframe, are_below, are_in_all, taken_series};
+ghost use Rattle.px_frame.specs.Schema.{column_field};
 
+use crate::schema::{Schema, schema_of};
 use indexmap::IndexSet;
 use px_column::{Column, Name, Px, PxError};
 use std::alloc::Global;
@@ -141,6 +143,13 @@ impl DataFrame {
         prove!(length <= height && offset <= height - length);
         let rows = rows_from(alloc, offset, length)?;
         self.take_rows(alloc, &rows)
+    }
+
+    /// The names and types of the columns in their order (polars `DataFrame::schema`).
+    pub fn schema(&self, alloc: Global) -> Px<Schema>
+        ensures { Answers result (Ok (map column_field self.now)) }
+    {
+        schema_of(alloc, &self.columns)
     }
 
     /// An equal frame.
