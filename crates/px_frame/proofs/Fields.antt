@@ -1,5 +1,5 @@
 -- What a schema's map finds stands in its list of fields.
-use Rattle.std.proofs.Common.{◌≡◌, ℕ, Bool, true, false, cond, List, [], ◌∷◌, ◌++◌, Option, Some, None, Bor, find, map, option_map, position, is_some, refl, sym, ◌∙◌, ap, subst}
+use Rattle.std.proofs.Common.{◌≡◌, ℕ, Bool, true, false, cond, List, [], ◌∷◌, ◌++◌, Option, Some, None, Bor, find, map, option_map, is_some, refl, sym, ◌∙◌, ap, subst}
 use Rattle.std.specs.List.{IsDistinct, list_any}
 use Rattle.std.specs.Map.{keys_of, lookup, lookup_key}
 use Rattle.std.proofs.lemmas.List.{map_push}

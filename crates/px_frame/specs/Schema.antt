@@ -1,5 +1,5 @@
 -- What contracts see of a schema: its fields' names and types in order, with distinct names.
-use Rattle.std.specs.Prelude.{ℕ, Bool, List, [], ◌∷◌, ◌++◌, Option, Result, Ok, Err, map, refl, if◌then◌else◌}
+use Rattle.std.specs.Prelude.{ℕ, Bool, List, map, refl}
 use Rattle.std.specs.Coded.{Coded, coded×, coded_list, coded_ℕ, code_by}
 use Rattle.std.specs.List.{list_any}
 use Rattle.px_column.specs.Kind.{Kind, coded_kind}

@@ -1,5 +1,5 @@
 -- The name and type that a field, or an entry of a schema's map, stands for.
-use Rattle.std.specs.Prelude.{ℕ, List, map}
+use Rattle.std.specs.Prelude.{ℕ, List}
 use Rattle.px_column.specs.KindView.{kind_of}
 use Rattle.px_column.specs.declared.data_type.DataType.{DataType}
 use Rattle.px_frame.specs.Schema.{FieldKind}

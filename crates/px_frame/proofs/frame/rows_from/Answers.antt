@@ -1,4 +1,4 @@
-use Rattle.std.proofs.Common.{◌≡◌, ◌∙◌, ◌++◌, ◌∷◌, [], List, ℕ, ap, sym, ◌+◌}
+use Rattle.std.proofs.Common.{◌∙◌, ◌++◌, ◌∷◌, [], List, ℕ, ap, sym, ◌+◌}
 use Rattle.px_frame.proofs.Keys.{range_next}
 use Rattle.px_frame.proofs.frame.rows_from.Goals as goal
 

@@ -1,4 +1,4 @@
-use Rattle.std.proofs.Common.{◌≡◌, ◌∙◌, ap, sym, position}
+use Rattle.std.proofs.Common.{◌∙◌, ap, sym, position}
 use Rattle.px_frame.specs.Frame.{name_eq}
 use Rattle.px_frame.proofs.Fields.{entry_names, full_field}
 use Rattle.px_frame.proofs.schema.Schema.get_full.Goals as goal
