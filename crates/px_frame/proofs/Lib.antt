@@ -4,6 +4,8 @@ pub mod Entering
 pub mod Started
 pub mod Bounds
 pub mod Keys
+pub mod Ranges
+pub mod Fields
 pub mod Built
 pub mod Each
 pub mod Made

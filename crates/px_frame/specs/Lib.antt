@@ -5,3 +5,5 @@ pub mod Groups
 pub mod GroupsView
 pub mod Enter
 pub mod Aggregate
+pub mod Schema
+pub mod SchemaView

@@ -1,11 +1,13 @@
 //! Frames: columns with distinct names and of one height.
-ghost use Rattle.std.specs.Prelude.{◌≡◌, ◌<◌, ◌^◌, ◌++◌, ◌∷◌, [], Ok, Err, OnOk, IfSome, true, List, map, option_map, length, vec_len, if◌then◌else◌};
-ghost use Rattle.std.specs.List.{list_any};
+ghost use Rattle.std.specs.Prelude.{◌≡◌, ◌<◌, ◌≤◌, ◌+◌, ◌^◌, ◌++◌, ◌∷◌, [], Ok, Err, OnOk, IfSome, true, List, map, option_map, length, vec_len, if◌then◌else◌};
+ghost use Rattle.std.specs.List.{list_any, range_with_len};
 ghost use Rattle.px_column.specs.Answer.{Answers, AnswersBy};
 ghost use Rattle.px_column.specs.Column.{all_within};
 ghost use Rattle.px_column.specs.declared.error.PxError.TheVariants.{Duplicate};
 ghost use Rattle.px_frame.specs.Frame.{look, height_of, frame_of, first_repeat, all_have_height, names_of, name_eq, unless_repeated, subframe, are_below, are_in_all, taken_series};
+ghost use Rattle.px_frame.specs.Schema.{column_field};
 
+use crate::schema::{Schema, schema_of};
 use indexmap::IndexSet;
 use px_column::{Column, Name, Px, PxError};
 use std::alloc::Global;
@@ -131,6 +133,31 @@ impl DataFrame {
         let indices = all_some(alloc, rows)?;
         DataFrame::new(alloc, take_columns(alloc, &self.columns, &indices)?)
     }
+
+    /// The `length` rows from `offset` on, all of which are there (polars `slice`).
+    pub fn slice(&self, alloc: Global, offset: u32, length: u32) -> Px<DataFrame>
+        requires { offset + length ≤ height_of self.now }
+        ensures { Answers result (Ok (subframe self.now (range_with_len offset length))) }
+    {
+        let height = self.height();
+        prove!(length <= height && offset <= height - length);
+        let rows = rows_from(alloc, offset, length)?;
+        self.take_rows(alloc, &rows)
+    }
+
+    /// The names and types of the columns in their order (polars `DataFrame::schema`).
+    pub fn schema(&self, alloc: Global) -> Px<Schema>
+        ensures { Answers result (Ok (map column_field self.now)) }
+    {
+        schema_of(alloc, &self.columns)
+    }
+
+    /// An equal frame.
+    pub fn try_clone(&self, alloc: Global) -> Px<DataFrame>
+        ensures { Answers result (Ok self.now) }
+    {
+        DataFrame::new(alloc, copy_columns(alloc, &self.columns)?)
+    }
 }
 
 fn take_column(alloc: Global, column: &Column, indices: &[Option<u32>]) -> Px<Column>
@@ -166,4 +193,26 @@ fn all_some(alloc: Global, rows: &[u32]) -> Px<Vec<Option<u32>>>
         indices.push(Some(*row))?;
     }
     Ok(indices)
+}
+
+/// `length` row numbers from `offset` on.
+fn rows_from(alloc: Global, offset: u32, length: u32) -> Px<Vec<u32>>
+    requires { offset + length < 2 ^ 32 }
+    ensures { AnswersBy (λ v. v.items) result (Ok (range_with_len offset length)) }
+{
+    let mut rows = Vec::with_capacity(alloc, length as usize)?;
+    for index in 0..length {
+        rows.push(offset + index)?;
+    }
+    Ok(rows)
+}
+
+fn copy_columns(alloc: Global, columns: &[Column]) -> Px<Vec<Column>>
+    ensures { AnswersBy (λ v. v.items) result (Ok columns.now) }
+{
+    let mut copies = Vec::with_capacity(alloc, columns.len())?;
+    for column in columns {
+        copies.push(column.try_clone(alloc)?)?;
+    }
+    Ok(copies)
 }

@@ -5,6 +5,7 @@ mod aggregate;
 mod frame;
 mod grouping;
 mod groups;
+mod schema;
 #[cfg(test)]
 mod tests;
 
@@ -12,3 +13,4 @@ pub use aggregate::{agg_sum, key_rows};
 pub use frame::DataFrame;
 pub use grouping::group_by;
 pub use groups::{GroupPositions, GroupsIndicator, GroupsType, IdxVec};
+pub use schema::{Field, Schema};

@@ -134,6 +134,51 @@ fn repeats_k(frame: &Px<DataFrame>) -> bool {
     }
 }
 
+// The frame of one column `x` of four rows.
+fn four_rows(alloc: Global) -> Px<DataFrame> {
+    let mut rows = Vec::new(alloc);
+    rows.push(slot(Some(5)))?;
+    rows.push(slot(Some(6)))?;
+    rows.push(slot(None))?;
+    rows.push(slot(Some(8)))?;
+    let column = Column::from_values(alloc, Name::new(alloc, "x")?, DataType::Int64, rows)?;
+    DataFrame::new(alloc, one(alloc, column)?)
+}
+
+fn middle_rows(alloc: Global, frame: &DataFrame) -> Px<DataFrame> {
+    if frame.height() != 4 {
+        return Err(PxError::ShapeMismatch);
+    }
+    frame.slice(alloc, 1, 2)
+}
+
+// Adds the field of this name, and says whether it stood already.
+fn repeats_field(alloc: Global, schema: &mut Schema, name: &str) -> Px<bool> {
+    let field = Field {
+        name: Name::new(alloc, name)?,
+        dtype: DataType::Int64,
+    };
+    match schema.push(field) {
+        Ok(()) => Ok(false),
+        Err(PxError::Duplicate(again)) => Ok(again.as_str() == name),
+        Err(error) => Err(error),
+    }
+}
+
+fn has_field(alloc: Global, schema: &Schema, name: &str) -> Px<bool> {
+    match schema.get_field(alloc, &Name::new(alloc, name)?)? {
+        None => Ok(false),
+        Some(field) => Ok(field.name.as_str() == name && matches!(field.dtype, DataType::Int64)),
+    }
+}
+
+fn place_of(alloc: Global, schema: &Schema, name: &str) -> Px<Option<usize>> {
+    match schema.get_full(&Name::new(alloc, name)?) {
+        None => Ok(None),
+        Some((place, _, _)) => Ok(Some(place)),
+    }
+}
+
 #[test]
 fn a_name_twice_and_another_height_are_refused(rt: HostRuntime) -> Result<(), Fail> {
     let alloc = rt.alloc();
@@ -150,6 +195,33 @@ fn rows_are_taken_and_columns_found(rt: HostRuntime) -> Result<(), Fail> {
     let taken = last_rows(alloc, &frame)?;
     assert!(rt; has_column(&taken, &Name::new(alloc, "x")?, Some(3), None));
     assert!(rt; !has_column(&taken, &Name::new(alloc, "y")?, Some(3), None));
+    Ok(())
+}
+
+#[test]
+fn a_slice_has_its_rows(rt: HostRuntime) -> Result<(), Fail> {
+    let alloc = rt.alloc();
+    let sliced = middle_rows(alloc, &four_rows(alloc)?)?;
+    assert!(rt; has_column(&sliced, &Name::new(alloc, "x")?, Some(6), None));
+    Ok(())
+}
+
+#[test]
+fn a_field_stands_once(rt: HostRuntime) -> Result<(), Fail> {
+    let alloc = rt.alloc();
+    let mut schema = Schema::new(alloc)?;
+    assert!(rt; !repeats_field(alloc, &mut schema, "a")?);
+    assert!(rt; repeats_field(alloc, &mut schema, "a")?);
+    assert!(rt; has_field(alloc, &schema, "a")?);
+    assert!(rt; !has_field(alloc, &schema, "b")?);
+    Ok(())
+}
+
+#[test]
+fn a_frame_has_a_schema(rt: HostRuntime) -> Result<(), Fail> {
+    let alloc = rt.alloc();
+    let schema = frame_with(alloc, integers(alloc, "x", [None, None, None])?)?.schema(alloc)?;
+    assert!(rt; place_of(alloc, &schema, "x")? == Some(1));
     Ok(())
 }
 
