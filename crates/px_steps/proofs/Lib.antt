@@ -9,3 +9,4 @@ pub mod DocumentSteps
 pub mod StepLoop
 pub mod Endings
 pub mod Command
+pub mod Readings

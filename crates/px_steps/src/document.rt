@@ -12,10 +12,13 @@ mod column;
 mod expr;
 mod fault;
 mod fields;
+mod hexadecimal;
 mod parsed;
+mod place;
 mod step;
 #[cfg(test)]
 mod tests;
+mod type_name;
 
 use crate::step::Step;
 use column::read_columns;

@@ -78,6 +78,66 @@ fn other_columns_are_refused(rt: HostRuntime) -> Result<(), Fail> {
     Ok(())
 }
 
+const ALL_TYPES: &str = r#"[
+    {"name":"a","type":"Boolean","values":[true,null]},
+    {"name":"b","type":"Int8","values":[-128,null]},
+    {"name":"c","type":"Int16","values":[-32768,null]},
+    {"name":"d","type":"Int32","values":[-2147483648,null]},
+    {"name":"e","type":"Int64","values":[-9223372036854775808,null]},
+    {"name":"f","type":"UInt8","values":[255,null]},
+    {"name":"g","type":"UInt16","values":[65535,null]},
+    {"name":"h","type":"UInt32","values":[4294967295,null]},
+    {"name":"i","type":"UInt64","values":[18446744073709551615,null]},
+    {"name":"j","type":"String","values":["x",null]},
+    {"name":"k","type":"Binary","values":["00ff",null]},
+    {"name":"l","type":"Null","values":[null,null]},
+    {"name":"m","type":"List(List(Int8))","values":[[[7,null],null],null]}
+]"#;
+
+#[test]
+fn columns_of_each_type_are_read(rt: HostRuntime) -> Result<(), Fail> {
+    let text = document(rt.alloc(), ALL_TYPES, STEPS)?;
+    let document = parse_document(rt.alloc(), text.as_bytes());
+    let columns = document.ok().ok_or("the text is a document")?.columns;
+    assert_eq!(rt; columns.len(), 13);
+    for column in &columns {
+        assert!(rt; column.get(1).is_none());
+    }
+    assert!(rt; matches!(columns[0].get(0), Some(ValueRef::Boolean(true))));
+    assert!(rt; matches!(columns[1].get(0), Some(ValueRef::Int(-128))));
+    assert!(rt; matches!(columns[8].get(0), Some(ValueRef::Int(18446744073709551615))));
+    assert!(rt; matches!(columns[9].get(0), Some(ValueRef::Text("x"))));
+    assert!(rt; matches!(columns[10].get(0), Some(ValueRef::Bytes(b"\x00\xff"))));
+    assert!(rt; columns[11].get(0).is_none());
+    let Some(ValueRef::List(outer)) = columns[12].get(0) else {
+        return Err("a list is read".into());
+    };
+    assert_eq!(rt; outer.len(), 2);
+    Ok(())
+}
+
+#[test]
+fn other_values_are_refused(rt: HostRuntime) -> Result<(), Fail> {
+    let columns = [
+        r#"[{"name":"k","type":"Int8","values":[200]}]"#,
+        r#"[{"name":"k","type":"Binary","values":["FF"]}]"#,
+        r#"[{"name":"k","type":"Binary","values":["0ff"]}]"#,
+        r#"[{"name":"k","type":"Boolean","values":["true"]}]"#,
+        r#"[{"name":"k","type":"Null","values":[0]}]"#,
+        r#"[{"name":"k","type":"List(Int8)","values":[[1,200]]}]"#,
+        r#"[{"name":"k","type":"List(List(List(List(List(List(List(List(List(List(List(List(List(List(List(List(List(Int8)))))))))))))))))","values":[]}]"#,
+    ];
+    for text in columns {
+        let text = document(rt.alloc(), text, STEPS)?;
+        assert!(rt; is_bad(rt.alloc(), text.as_bytes()));
+    }
+    let deepest =
+        r#"[{"name":"k","type":"List(List(List(List(List(List(List(List(List(List(List(List(List(List(List(List(Int8))))))))))))))))","values":[]}]"#;
+    let deepest = document(rt.alloc(), deepest, STEPS)?;
+    assert!(rt; parse_document(rt.alloc(), deepest.as_bytes()).is_ok());
+    Ok(())
+}
+
 #[test]
 fn other_steps_are_refused(rt: HostRuntime) -> Result<(), Fail> {
     let steps = [
