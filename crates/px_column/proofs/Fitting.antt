@@ -1,5 +1,5 @@
 -- What is read of places that fit a type fits it.
-use Rattle.std.proofs.Common.{◌≡◌, ℕ, zero, suc, ◌<◌, ◌^◌, Bool, true, false, ◌&&◌, List, [], ◌∷◌, Option, Some, None, length, map, refl, subst, sym}
+use Rattle.std.proofs.Common.{◌≡◌, ℕ, zero, suc, ◌<◌, ◌^◌, Bool, true, false, ◌&&◌, List, [], ◌∷◌, Option, Some, None, length, map, replicate, refl, subst, sym}
 use Rattle.std.proofs.lemmas.List.{length-map}
 use Rattle.px_column.specs.Datum.{Slot}
 use Rattle.px_column.specs.Kind.{Kind, slot_fits, slots_fit}
@@ -27,3 +27,8 @@ fits_taken k xs (r ∷ rs) h = λ i. fits_taken_at k xs r h i && fits_taken k xs
 pub taken_column : (k : Kind) (xs ys : List Slot) (rows : List (Option ℕ)) → IsColumn k xs → length rows < 2 ^ 32 → ys ≡ map (taken_at xs) rows → IsColumn k ys
 taken_column k xs ys rows c n e =
     subst (IsColumn k) (sym e) (record { fit = fits_taken k xs rows c.fit; short = rw (length-map rows (taken_at xs)) n })
+
+-- a place that fits, at each of n rows
+pub fits_repeated : (k : Kind) (s : Slot) (n : ℕ) → slot_fits k s ≡ true → slots_fit k (replicate n s) ≡ true
+fits_repeated k s zero h = refl
+fits_repeated k s (suc n) h = λ i. h i && fits_repeated k s n h i

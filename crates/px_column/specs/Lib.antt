@@ -14,3 +14,4 @@ pub mod Answer
 pub mod Column
 pub mod Sum
 pub mod Reduction
+pub mod Repeat

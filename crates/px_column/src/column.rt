@@ -137,6 +137,15 @@ impl Column {
         }
     }
 
+    /// The column of these values, which fit the type.
+    pub(crate) fn of_fitting(name: Name, dtype: DataType, rows: Vec<Option<Value>>) -> Column
+        requires fit { slots_fit (kind_of dtype) (slots_of rows.items) ≡ true }
+        requires short { vec_len rows < 2 ^ 32 }
+        ensures { result ≡ record { name = name; kind = kind_of dtype; slots = slots_of rows.items } }
+    {
+        Column { name, dtype, rows }
+    }
+
     /// The number of rows.
     pub fn len(&self) -> u32
         ensures { result ≡ length self.now.slots }

@@ -7,6 +7,7 @@ mod error;
 pub mod kernels;
 mod method;
 mod name;
+mod repeat;
 mod row_key;
 mod steps;
 #[cfg(test)]

@@ -82,3 +82,45 @@ fn sums_wrap_in_the_type_of_the_result(rt: HostRuntime) -> Result<(), Fail> {
     assert_eq!(rt; sum(alloc, &small)?, Some(300));
     Ok(())
 }
+
+fn fives(alloc: Global) -> Px<Column> {
+    let name = Name::new(alloc, "x")?;
+    Column::full(alloc, name, DataType::Int64, Value::Int(5), 3)
+}
+
+fn two_nulls(alloc: Global) -> Px<Column> {
+    let name = Name::new(alloc, "x")?;
+    Column::full_null(alloc, name, 2, DataType::Int64)
+}
+
+fn ascending(alloc: Global) -> Px<Column> {
+    let name = Name::new(alloc, "x")?;
+    let rows = Vec::from_array(
+        alloc,
+        [
+            Some(Value::Int(4)),
+            Some(Value::Int(5)),
+            Some(Value::Int(6)),
+        ],
+    )?;
+    Column::from_values(alloc, name, DataType::Int64, rows)
+}
+
+fn middle_twice(alloc: Global) -> Px<Column> {
+    let column = ascending(alloc)?;
+    if column.len() == 3 {
+        column.new_from_index(alloc, 1, 2)
+    } else {
+        Err(PxError::ShapeMismatch)
+    }
+}
+
+#[test]
+fn one_value_is_repeated(rt: HostRuntime) -> Result<(), Fail> {
+    let alloc = rt.alloc();
+    assert!(rt; Value::Int(5).fits(&DataType::Int64));
+    assert_eq!(rt; fives(alloc)?.total_at(&[0, 1, 2]), 15);
+    assert_eq!(rt; two_nulls(alloc)?.null_count(), 2);
+    assert_eq!(rt; middle_twice(alloc)?.total_at(&[0, 1]), 10);
+    Ok(())
+}

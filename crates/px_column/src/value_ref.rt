@@ -39,6 +39,13 @@ impl Value {
             Value::List(all) => ValueRef::List(all),
         }
     }
+
+    /// Whether the value fits the type: it is of that kind and, for integers, in the type's range.
+    pub fn fits(&self, dtype: &DataType) -> bool
+        ensures { result ≡ fits (kind_of dtype.now) (datum_of self.now) }
+    {
+        value_fits(dtype, self.lend())
+    }
 }
 
 pub(crate) fn lend(slot: &Option<Value>) -> Option<ValueRef<'_>>

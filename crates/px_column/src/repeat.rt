@@ -1,0 +1,69 @@
+//! Columns that hold the same at each row.
+ghost use Rattle.std.specs.Prelude.{◌≡◌, ◌<◌, Ok, Some, None, length, replicate, true};
+ghost use Rattle.px_column.specs.Answer.{Answers, AnswersBy};
+ghost use Rattle.px_column.specs.Kind.{fits, slot_fits};
+ghost use Rattle.px_column.specs.KindView.{kind_of};
+ghost use Rattle.px_column.specs.LentView.{slot_of_ref};
+ghost use Rattle.px_column.specs.Repeat.{repeated};
+ghost use Rattle.px_column.specs.Series.{slot_at};
+ghost use Rattle.px_column.specs.View.{datum_of, slots_of};
+
+use crate::column::Column;
+use crate::data_type::DataType;
+use crate::error::Px;
+use crate::name::Name;
+use crate::value::Value;
+use crate::value_ref::{ValueRef, copy_slot};
+use std::alloc::Global;
+
+fn copies(alloc: Global, slot: Option<ValueRef<'_>>, len: u32) -> Px<Vec<Option<Value>>>
+    ensures { AnswersBy (λ v. slots_of v.items) result (Ok (replicate len (slot_of_ref slot.entry))) }
+{
+    let mut copies = Vec::with_capacity(alloc, len as usize)?;
+    for _ in 0..len {
+        copies.push(copy_slot(alloc, slot)?)?;
+    }
+    Ok(copies)
+}
+
+fn repeated(
+    alloc: Global,
+    name: Name,
+    dtype: DataType,
+    slot: Option<ValueRef<'_>>,
+    len: u32,
+) -> Px<Column>
+    requires { slot_fits (kind_of dtype) (slot_of_ref slot) ≡ true }
+    ensures { Answers result (Ok (repeated name (kind_of dtype) (slot_of_ref slot.entry) len)) }
+{
+    Ok(Column::of_fitting(name, dtype, copies(alloc, slot, len)?))
+}
+
+impl Column {
+    /// The column of this value at each of `len` rows (polars `Column::full`). The value fits the type,
+    /// as `Value::fits` tells.
+    pub fn full(alloc: Global, name: Name, dtype: DataType, value: Value, len: u32) -> Px<Column>
+        requires { fits (kind_of dtype) (datum_of value) ≡ true }
+        ensures { Answers result (Ok (repeated name (kind_of dtype) (Some (datum_of value)) len)) }
+    {
+        repeated(alloc, name, dtype, Some(value.lend()), len)
+    }
+
+    /// The column of `len` nulls (polars `Series::full_null`).
+    pub fn full_null(alloc: Global, name: Name, len: u32, dtype: DataType) -> Px<Column>
+        ensures { Answers result (Ok (repeated name (kind_of dtype) None len)) }
+    {
+        repeated(alloc, name, dtype, None, len)
+    }
+
+    /// The column of what this one holds at `index`, which is below its length, at each of `len`
+    /// rows (polars `new_from_index`).
+    pub fn new_from_index(&self, alloc: Global, index: u32, len: u32) -> Px<Column>
+        requires { index < length self.now.slots }
+        ensures { Answers result (Ok (repeated self.now.name self.now.kind (slot_at self.now.slots index) len)) }
+    {
+        let name = self.name().try_clone(alloc)?;
+        let dtype = self.dtype().try_clone(alloc)?;
+        repeated(alloc, name, dtype, self.slot(index), len)
+    }
+}
