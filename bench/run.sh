@@ -1,10 +1,10 @@
 #!/usr/bin/env bash
 # Prints a Markdown table that compares px with the peers that are installed, each at its best of three on the same document.
-# bench/run.sh [ROWS] [KEYS] : PX, where it is set, is the full path of an executable to measure in place of the one that ./px builds.
+# bench/run.sh [ROWS] [KEYS] [TYPE] : TYPE is that of the keys, Int64 or String; PX, where it is set, is the full path of an executable to measure in place of the one that ./px builds.
 set -eu
 export LC_ALL=C
 cd "$(dirname "$0")/.."
-rows=${1:-1000000} keys=${2:-1000}
+rows=${1:-1000000} keys=${2:-1000} type=${3:-Int64}
 . bench/prepare.sh
 
 # A peer's answer has a line [key,sum,rows] for each group, in any order.
@@ -28,13 +28,13 @@ for it in python3 /usr/bin/python3; do
     if [ -z "$python" ] && "$it" -c 'import pandas' 2> /dev/null; then python=$it; fi
 done
 
-python3 bench/make_document.py "$rows" "$keys" > "$work/document"
+python3 bench/make_document.py "$rows" "$keys" "$type" > "$work/document"
 measured=$(bench/measure.sh "$work/document" "$work/answer" "$PX" run)
 read -r px_seconds px_memory <<< "$measured"
 # The first two lines are the names and the types of the columns.
 tail -n +3 "$work/answer" | sort > "$work/groups"
 
-echo "$rows rows, $(wc -l < "$work/groups") groups, $(wc -c < "$work/document") bytes"
+echo "$rows rows, $type keys, $(wc -l < "$work/groups") groups, $(wc -c < "$work/document") bytes"
 echo
 echo "| tool | wall seconds | peak memory, MB | seconds, px / tool | memory, px / tool | groups |"
 echo "|---|--:|--:|--:|--:|---|"
