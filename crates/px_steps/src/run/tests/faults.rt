@@ -31,7 +31,10 @@ fn the_first_or_the_second_read_fails(rt: HostRuntime) -> Result<(), Fail> {
     for read in [1, 2] {
         let mut source = source_in_pieces(alloc, VALID, 16, vec![in alloc; read]?)?;
         let mut sink = MemorySink::new(alloc, 100, 10, Vec::new(alloc))?;
-        assert_eq!(rt; ran(alloc, "run", &mut source, &mut sink)?, Status::ReadFault);
+        assert_eq!(rt;
+            ran(alloc, "run", &mut source, &mut sink)?,
+            Status::ReadFault
+        );
         assert!(rt; sink.bytes().is_empty());
     }
     Ok(())
@@ -42,7 +45,10 @@ fn the_second_write_fails(rt: HostRuntime) -> Result<(), Fail> {
     let alloc = rt.alloc();
     let mut source = source_of(alloc, VALID)?;
     let mut sink = MemorySink::new(alloc, 100, 10, vec![in alloc; 2]?)?;
-    assert_eq!(rt; ran(alloc, "run", &mut source, &mut sink)?, Status::WriteFault);
+    assert_eq!(rt;
+        ran(alloc, "run", &mut source, &mut sink)?,
+        Status::WriteFault
+    );
     assert_eq!(rt; sink.bytes(), b"[\"k\",\"len\"".as_slice());
     Ok(())
 }
@@ -52,7 +58,10 @@ fn a_sink_has_room_for_ten_bytes(rt: HostRuntime) -> Result<(), Fail> {
     let alloc = rt.alloc();
     let mut source = source_of(alloc, VALID)?;
     let mut sink = MemorySink::new(alloc, 10, 100, Vec::new(alloc))?;
-    assert_eq!(rt; ran(alloc, "run", &mut source, &mut sink)?, Status::WriteFault);
+    assert_eq!(rt;
+        ran(alloc, "run", &mut source, &mut sink)?,
+        Status::WriteFault
+    );
     assert_eq!(rt; sink.bytes(), b"[\"k\",\"len\"".as_slice());
     Ok(())
 }
@@ -62,7 +71,10 @@ fn the_first_write_of_a_refusal_fails(rt: HostRuntime) -> Result<(), Fail> {
     let alloc = rt.alloc();
     let mut source = source_of(alloc, NO_COLUMN)?;
     let mut sink = MemorySink::new(alloc, 100, 10, vec![in alloc; 1]?)?;
-    assert_eq!(rt; ran(alloc, "run", &mut source, &mut sink)?, Status::WriteFault);
+    assert_eq!(rt;
+        ran(alloc, "run", &mut source, &mut sink)?,
+        Status::WriteFault
+    );
     assert!(rt; sink.bytes().is_empty());
     Ok(())
 }
