@@ -1,5 +1,7 @@
 //! A run whose reads and writes are short, or fail.
 
+ghost use Rattle.std.specs.Prelude.{◌<◌};
+
 use super::*;
 
 const TEXT: &str = "[\"k\",\"len\"]\n[\"Int64\",\"UInt32\"]\n[7,2]\n[9,1]\n";

@@ -148,64 +148,22 @@ fn other_inputs_are_no_documents(rt: HostRuntime) -> Result<(), Fail> {
     Ok(())
 }
 
-// Documents, and the status and the text of each.
-const TABLE: [(&str, Status, &str); 10] = [
-    (
-        r#"{"columns":[{"name":"a\"\\\n\u0001é","type":"Int64","values":[1]}],"steps":[{"group":{"keys":[{"col":"a\"\\\n\u0001é"}],"aggs":[],"chunks":null}}]}"#,
+#[test]
+fn texts_as_keys(rt: HostRuntime) -> Result<(), Fail> {
+    check(
+        rt.alloc(),
+        r#"{"columns":[{"name":"k","type":"String","values":["a","b","a","a"]},{"name":"x","type":"Int64","values":[0,1,2,3]}],"steps":[{"group":{"keys":[{"col":"k"}],"aggs":[{"agg":["Sum",{"col":"x"}]},{"len":null}],"chunks":null}}]}"#,
         Status::Done,
-        "[\"a\\\"\\\\\\n\\u0001é\"]\n[\"Int64\"]\n[1]\n",
-    ),
-    (
-        r#" { "steps" : [{"group":{"chunks":null,"aggs":[{"len":null}],"keys":[{"col":"k"}]}}], "columns" : [{"values":[-9223372036854775808,9223372036854775807],"type":"Int64","name":"k"}] } "#,
-        Status::Done,
-        "[\"k\",\"len\"]\n[\"Int64\",\"UInt32\"]\n[-9223372036854775808,1]\n[9223372036854775807,1]\n",
-    ),
-    (
-        r#"{"columns":1,"columns":[{"name":"k","type":"Int64","values":[-5,-5]}],"steps":[{"group":{"keys":[{"col":"k"}],"aggs":[],"chunks":null}}]}"#,
-        Status::Done,
-        "[\"k\"]\n[\"Int64\"]\n[-5]\n",
-    ),
-    (
-        r#"{"columns":[{"name":"k","type":"Int64","values":[]}],"steps":[{"group":{"keys":[{"col":"k"}],"aggs":[{"len":null},{"len":null}],"chunks":null}}]}"#,
-        Status::Refused,
-        "error: Duplicate(\"len\")\n",
-    ),
-    (
-        r#"{"columns":[{"name":"k","type":"Int64","values":[]}],"steps":[{"group":{"keys":[{"col":"k"},{"col":"z"}],"aggs":[{"agg":["Sum",{"col":"y"}]}],"chunks":null}}]}"#,
-        Status::Refused,
-        "error: ColumnNotFound(\"z\")\n",
-    ),
-    (
-        r#"{"columns":[{"name":"k","type":"Int64","values":[]}],"steps":[{"group":{"keys":[{"col":"k"},{"col":"k"}],"aggs":[],"chunks":null}}]}"#,
-        Status::Refused,
-        "error: Duplicate(\"k\")\n",
-    ),
-    (
-        r#"{"columns":[],"steps":[{"group":{"keys":[],"aggs":[],"chunks":null}}]}"#,
-        Status::Refused,
-        "error: ComputeError(NoKey)\n",
-    ),
-    (
-        r#"{"columns":[{"name":"k","type":"Int64","values":[]},{"name":"k","type":"Int64","values":[]}],"steps":[{"group":{"keys":[{"col":"k"}],"aggs":[],"chunks":null}}]}"#,
-        Status::BadDocument,
-        "error: BadDocument\n",
-    ),
-    (
-        r#"{"columns":[],"steps":[]}"#,
-        Status::BadDocument,
-        "error: BadDocument\n",
-    ),
-    (
-        r#"{"columns":[],"steps":[{"group":{"keys":[],"aggs":[],"chunks":null}}],"more":0}"#,
-        Status::BadDocument,
-        "error: BadDocument\n",
-    ),
-];
+        "[\"k\",\"x\",\"len\"]\n[\"String\",\"Int64\",\"UInt32\"]\n[\"a\",5,3]\n[\"b\",1,1]\n",
+    )
+}
 
 #[test]
-fn documents_have_their_texts(rt: HostRuntime) -> Result<(), Fail> {
-    for (document, status, text) in TABLE {
-        check(rt.alloc(), document, status, text)?;
-    }
-    Ok(())
+fn small_integers_are_summed_as_int64(rt: HostRuntime) -> Result<(), Fail> {
+    check(
+        rt.alloc(),
+        r#"{"columns":[{"name":"k","type":"Int64","values":[1,1]},{"name":"u","type":"UInt8","values":[200,100]}],"steps":[{"group":{"keys":[{"col":"k"}],"aggs":[{"agg":["Sum",{"col":"u"}]}],"chunks":null}}]}"#,
+        Status::Done,
+        "[\"k\",\"u\"]\n[\"Int64\",\"Int64\"]\n[1,300]\n",
+    )
 }
