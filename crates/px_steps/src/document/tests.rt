@@ -101,6 +101,7 @@ fn columns_of_each_type_are_read(rt: HostRuntime) -> Result<(), Fail> {
     let columns = document.ok().ok_or("the text is a document")?.columns;
     assert_eq!(rt; columns.len(), 13);
     for column in &columns {
+        assert_eq!(rt; column.len(), 2);
         assert!(rt; column.get(1).is_none());
     }
     Ok(())
