@@ -1,3 +1,4 @@
+pub mod Option
 pub mod Datum
 pub mod DatumCode
 pub mod Equality
@@ -14,4 +15,6 @@ pub mod Answer
 pub mod Column
 pub mod Sum
 pub mod Reduction
+pub mod Operator
+pub mod Cast
 pub mod Repeat

@@ -1,4 +1,4 @@
 pub mod Tree
 pub mod View
-pub mod Meaning
-pub mod Refusals
+pub mod Shape
+pub mod Typing

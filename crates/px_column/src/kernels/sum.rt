@@ -127,6 +127,7 @@ impl Column {
         kernels.tick();
         match method {
             GroupByMethod::Sum => self.sum(alloc),
+            _ => Err(PxError::InvalidOperation(InvalidWhy::Types)),
         }
     }
 
