@@ -131,31 +131,3 @@ abbrev mutual
   pub first_name : Trees → List ℕ
   first_name no_trees = []
   first_name (one_tree t ts) = name_of t
-
--- a function has at least one input, throughout the expression
-abbrev mutual
-  pub has_inputs : Tree → Bool
-  has_inputs (column n) = true
-  has_inputs (literal v) = true
-  has_inputs (alias e n) = has_inputs e
-  has_inputs (binary l op r) = has_inputs l && has_inputs r
-  has_inputs (ternary p a b) = has_inputs p && (has_inputs a && has_inputs b)
-  has_inputs (cast e k options) = has_inputs e
-  has_inputs (function no_trees f) = false
-  has_inputs (function (one_tree t ts) f) = has_inputs t && have_inputs ts
-  has_inputs (filter e by) = has_inputs e && has_inputs by
-  has_inputs (slice e offset length) = has_inputs e && (has_inputs offset && has_inputs length)
-  has_inputs (gather e idx one) = has_inputs e && has_inputs idx
-  has_inputs (sort e options) = has_inputs e
-  has_inputs (sort_by e by options) = has_inputs e && have_inputs by
-  has_inputs (agg m e) = has_inputs e
-  has_inputs len = true
-  has_inputs (window f keys order mapping) = has_inputs f && (have_inputs keys && has_inputs_order order)
-
-  pub have_inputs : Trees → Bool
-  have_inputs no_trees = true
-  have_inputs (one_tree t ts) = has_inputs t && have_inputs ts
-
-  pub has_inputs_order : Order → Bool
-  has_inputs_order no_order = true
-  has_inputs_order (ordered t options) = has_inputs t
