@@ -13,8 +13,11 @@ pub mod Falls
 pub mod Key
 pub mod Answer
 pub mod Column
+pub mod Wrap
+pub mod Order
 pub mod Sum
 pub mod Reduction
 pub mod Operator
 pub mod Cast
+pub mod Function
 pub mod Repeat

@@ -1,8 +1,13 @@
 -- Reductions: all rows become one value.
-use Rattle.std.specs.Prelude.{Result, Ok, Err, Option, Some, None, if◌then◌else◌}
+use Rattle.std.specs.Prelude.{ℕ, ◌-◌, pos, true, false, List, [], ◌∷◌, ◌++◌, length, fold, filter_map, count_by, is_some, Result, Ok, Err, Option, Some, None, if◌then◌else◌}
+use Rattle.std.specs.List.{list_any, reduce}
+use Rattle.std.specs.Ordering.{ord_min, ord_max}
+use Rattle.px_column.specs.Datum.{Datum, integer, list, Slot, slots}
+use Rattle.px_column.specs.Equality.{slot_eq}
 use Rattle.px_column.specs.Kind.{Kind, uint32s, lists, is_list_kind}
-use Rattle.px_column.specs.Series.{Series}
-use Rattle.px_column.specs.Sum.{sum_of, sum_kind}
+use Rattle.px_column.specs.Order.{datum_cmp}
+use Rattle.px_column.specs.Series.{Series, slot_at}
+use Rattle.px_column.specs.Sum.{sum_kind, summed, sum_of}
 use Rattle.px_column.specs.declared.error.PxError.{PxError}
 use Rattle.px_column.specs.declared.error.PxError.TheVariants.{InvalidOperation}
 use Rattle.px_column.specs.declared.error.InvalidWhy.TheVariants.{ListKey, Types}
@@ -28,7 +33,42 @@ reduced_kind NUnique k = unless_list k uint32s
 reduced_kind (Count nulls) k = Ok uint32s
 reduced_kind Implode k = Ok (lists k)
 
--- one row, the reduction of all rows, or why there is none
+-- the values that are there
+abbrev pub values_of : List Slot → List Datum
+values_of xs = filter_map (λ s. s) xs
+
+-- a slot put last, unless it is there already
+abbrev pub with_slot : List Slot → Slot → List Slot
+with_slot seen s = if list_any (slot_eq s) seen then seen else seen ++ s ∷ []
+
+-- each slot once, a null being the same as a null
+abbrev pub distinct_slots : List Slot → List Slot
+distinct_slots xs = fold with_slot [] xs
+
+abbrev pub count_slot : ℕ → Slot
+count_slot n = Some (integer (pos n))
+
+abbrev pub sum_slot : Option Kind → List Slot → Slot
+sum_slot None xs = None
+sum_slot (Some k) xs = summed k xs
+
+-- the reduction of rows of a type
+abbrev pub reduced_slot : GroupByMethod → Kind → List Slot → Slot
+reduced_slot Min k xs = reduce (ord_min datum_cmp) (values_of xs)
+reduced_slot Max k xs = reduce (ord_max datum_cmp) (values_of xs)
+reduced_slot Sum k xs = sum_slot (sum_kind k) xs
+reduced_slot First k xs = slot_at xs 0
+reduced_slot Last k xs = slot_at xs (length xs - 1)
+reduced_slot NUnique k xs = count_slot (length (distinct_slots xs))
+reduced_slot (Count true) k xs = count_slot (length xs)
+reduced_slot (Count false) k xs = count_slot (count_by is_some xs)
+reduced_slot Implode k xs = Some (list (slots xs))
+
+-- one row, the reduction of all rows, where there is a type for it
+abbrev pub reduced_as : GroupByMethod → Series → Result Kind PxError → Result Series PxError
+reduced_as method s (Ok k) = Ok (record { name = s.name; kind = k; slots = reduced_slot method s.kind s.slots ∷ [] })
+reduced_as method s (Err e) = Err e
+
 abbrev pub reduced : GroupByMethod → Series → Result Series PxError
 reduced Sum s = sum_of s
 reduced _ s = Err (InvalidOperation Types)
