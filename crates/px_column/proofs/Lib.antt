@@ -1,3 +1,9 @@
 pub mod Fitting
 pub mod Lengths
 pub mod Summing
+pub mod WrapRows
+pub mod OperatorRows
+pub mod CastRows
+pub mod OrderRows
+pub mod FunctionRows
+pub mod ReductionRows

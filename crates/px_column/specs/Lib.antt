@@ -21,3 +21,10 @@ pub mod Operator
 pub mod Cast
 pub mod Function
 pub mod Repeat
+pub mod Rows
+pub mod WrapRows
+pub mod OperatorRows
+pub mod CastRows
+pub mod OrderRows
+pub mod FunctionRows
+pub mod ReductionRows

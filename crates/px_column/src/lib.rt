@@ -12,6 +12,7 @@ mod name;
 mod operator;
 mod repeat;
 mod row_key;
+pub mod rows;
 mod sort_options;
 mod steps;
 #[cfg(test)]

@@ -1,0 +1,29 @@
+-- Slots of which the tables of small cases speak.
+use Rattle.std.specs.Prelude.{ℕ, ℤ, pos, neg_ℤ, Bool, true, false, String, List, Some, None, codes}
+use Rattle.px_column.specs.Datum.{boolean, integer, text, bytes, list, Slot, slots}
+
+-- a number, and its negative
+abbrev pub num : ℕ → Slot
+num n = Some (integer (pos n))
+
+abbrev pub neg : ℕ → Slot
+neg n = Some (integer (neg_ℤ (pos n)))
+
+abbrev pub yes : Slot
+yes = Some (boolean true)
+
+abbrev pub no : Slot
+no = Some (boolean false)
+
+-- no value
+abbrev pub gone : Slot
+gone = None
+
+abbrev pub list_of : List Slot → Slot
+list_of xs = Some (list (slots xs))
+
+abbrev pub text_of : List ℕ → Slot
+text_of s = Some (text s)
+
+abbrev pub bytes_of : List ℕ → Slot
+bytes_of s = Some (bytes s)
