@@ -1,4 +1,5 @@
 pub mod Option
+pub mod Result
 pub mod Datum
 pub mod DatumCode
 pub mod Equality

@@ -5,6 +5,8 @@ pub mod Parts
 pub mod Groups
 pub mod GroupsView
 pub mod Enter
+pub mod External
+pub mod Ordered
 pub mod Aggregate
 pub mod Schema
 pub mod SchemaView
