@@ -4,7 +4,7 @@ use Rattle.std.specs.List.{flat_map, list_any, zip}
 use Rattle.std.specs.Option.{option_map_or}
 use Rattle.std.specs.Result.{result_ok}
 use Rattle.px_column.specs.Kind.{Kind, nulls}
-use Rattle.px_column.specs.Option.{◌>>=◌}
+use Rattle.px_column.specs.Option.{◌>>=◌, each}
 use Rattle.px_column.specs.Reduction.{count_slot}
 use Rattle.px_column.specs.Series.{Series}
 use Rattle.px_column.specs.declared.error.PxError.{PxError}
@@ -24,14 +24,6 @@ use Rattle.px_plan.specs.Window.{OrderCell, parts_by, window_cell}
 -- what a node made, where it is no fault
 abbrev pub made : Option (Result Cell PxError) → Option Cell
 made outcome = outcome >>= result_ok
-
--- each of some, until there is none
-abbrev pub each : {A B : Type 0} → (A → Option B) → List A → Option (List B)
-each f [] = Some []
-each f (x ∷ xs) = do
-  y ← f x
-  ys ← each f xs
-  Some (y ∷ ys)
 
 -- a cell under the expression's name and type
 abbrev pub named : Tree → Frame → Cell → Option NamedCell

@@ -12,13 +12,14 @@ use Rattle.px_frame.specs.Aggregate.{key_column}
 use Rattle.px_frame.specs.Frame.{names_of, height_of, has_height, all_have_height, is_even, first_repeat, frame_of, unless_repeated}
 use Rattle.px_frame.specs.Groups.{Group, Groups, group_of, grouped, groups_by, first_row, is_list, rows_of}
 use Rattle.px_frame.specs.Parts.{parts_of}
-use Rattle.px_plan.specs.Meaning.{name_of, kind_on, shape_of, value_on}
-use Rattle.px_plan.specs.Refusals.{first_of_two}
+use Rattle.px_plan.specs.Shape.{name_of, is_unit}
+use Rattle.px_steps.specs.Direct.{kind_on, value_on, first_of_two, aggregated_on, value_on_part, grouped_kind, columns_on, repeat_refusal, key_on, spread, key_refusals, agg_refusals, step_refusals, step_on}
 use Rattle.px_plan.specs.Tree.{Tree}
 use Rattle.px_steps.specs.Built.{is_key}
-use Rattle.px_steps.specs.Form.{each, with_front}
+use Rattle.px_column.specs.Option.{each}
+use Rattle.px_steps.specs.Form.{with_front}
 use Rattle.px_steps.specs.Meets.{IsFirst, Meets}
-use Rattle.px_steps.specs.Plain.{key_values, aggregated_on, value_on_part, grouped_kind, columns_on, repeat_refusal, key_on, spread, key_refusals, agg_refusals, step_refusals, step_on}
+use Rattle.px_steps.specs.Plain.{key_values}
 use Rattle.px_steps.specs.Step.{group}
 use Rattle.px_steps.proofs.Named.{refuses_first, refuses_none, IsFirst_append, IsFirst_or}
 
@@ -71,12 +72,12 @@ made_each f seen of (t ∷ ts) made h e =
 
 aggregated_name : (frame : List Series) (ps : List (List ℕ)) (t : Tree) (c : Series) → aggregated_on frame ps t ≡ Some c → c.name ≡ name_of t
 aggregated_name frame ps t c e =
-    let made = map_some (kind_on t frame) (λ k. record { name = name_of t; kind = grouped_kind (shape_of t) k; slots = map (value_on_part frame t) ps }) c e in
+    let made = map_some (kind_on t frame) (λ k. record { name = name_of t; kind = grouped_kind (is_unit t) k; slots = map (value_on_part frame t) ps }) c e in
     ap (λ s. s.name) (sym made.2)
 
 aggregated_height : (frame : List Series) (ps : List (List ℕ)) (t : Tree) (c : Series) → aggregated_on frame ps t ≡ Some c → has_height (length ps) c ≡ true
 aggregated_height frame ps t c e =
-    let made = map_some (kind_on t frame) (λ k. record { name = name_of t; kind = grouped_kind (shape_of t) k; slots = map (value_on_part frame t) ps }) c e in
+    let made = map_some (kind_on t frame) (λ k. record { name = name_of t; kind = grouped_kind (is_unit t) k; slots = map (value_on_part frame t) ps }) c e in
     has_length (length ps) c (ap (λ s. length s.slots) (sym made.2) ∙ length-map ps (value_on_part frame t))
 
 all_true : {X : Type 0} (test : Series → Bool) (xs : List X) (made : List Series) → map test made ≡ map (λ _. true) xs → list_all test made ≡ true

@@ -5,11 +5,12 @@ use Rattle.std.proofs.lemmas.Bool.Decides.{nat_tests}
 use Rattle.serde_json.specs.Data.{Data}
 use Rattle.serde_json.specs.Find.{as_null, as_str}
 use Rattle.serde_json.specs.Read.{read}
-use Rattle.px_column.specs.declared.method.GroupByMethod.{GroupByMethod}
+use Rattle.px_column.specs.declared.method.GroupByMethod.TheVariants.{Sum}
 use Rattle.px_plan.specs.Tree.{Tree, column, agg, len}
 use Rattle.px_steps.specs.Built.{is_built, is_built_key, is_built_agg}
-use Rattle.px_steps.specs.Document.{Doc, IsDocumentText, document_of, document_of_parts, column_of, step_of, steps_of, group_of_parts, key_of, agg_of, is_len, reduction_of, reduction_of_parts, method_named}
-use Rattle.px_steps.specs.Form.{◌>>=◌, each, items, field, fields}
+use Rattle.px_steps.specs.Document.{Doc, IsDocumentText, document_of, document_of_parts, column_of, step_of, steps_of, group_of_parts, key_of, agg_of, is_len, reduction_of, reduction_of_parts, is_sum}
+use Rattle.px_column.specs.Option.{◌>>=◌, each}
+use Rattle.px_steps.specs.Form.{items, field, fields}
 use Rattle.px_steps.specs.Step.{PlainStep, group}
 use Rattle.px_steps.proofs.Columns.{and_then_some, map_some}
 
@@ -24,19 +25,19 @@ each_all f test (d ∷ ds) bs h e =
 key_built : (d : Data) (t : Tree) → key_of d ≡ Some t → is_built_key t ≡ true
 key_built d t e = let m = map_some (field (codes "col") d >>= as_str) column t e in ap is_built_key (sym m.2)
 
-agg_built : (m : GroupByMethod) (t : Tree) → is_built_key t ≡ true → is_built_agg (agg m t) ≡ true
-agg_built m (column n) h = refl
-agg_built m (agg r t) h = cc
-agg_built m len h = cc
+agg_built : (t : Tree) → is_built_key t ≡ true → is_built_agg (agg Sum t) ≡ true
+agg_built (column n) h = refl
+agg_built _ h = cc
 
 reduction_built : (t : Tree) (parts : List Data) → reduction_of_parts parts ≡ Some t → is_built_agg t ≡ true
 reduction_built t [] e = cc
 reduction_built t (m ∷ []) e = cc
 reduction_built t (m ∷ k ∷ []) e =
-    let method = and_then_some (as_str m >>= method_named) (λ r. key_of k >>= λ key. Some (agg r key)) t e in
-    let key = and_then_some (key_of k) (λ x. Some (agg method.0 x)) t method.2 in
-    let same : agg method.0 key.0 ≡ t = cc (key.2) in
-    ap is_built_agg (sym same) ∙ agg_built method.0 key.0 (key_built k key.0 key.1)
+    by (is_sum m) e
+  where
+    by : (b : Bool) → cond b (option_map (agg Sum) (key_of k)) None ≡ Some t → is_built_agg t ≡ true
+    by true f = let key = map_some (key_of k) (agg Sum) t f in ap is_built_agg (sym key.2) ∙ agg_built key.0 (key_built k key.0 key.1)
+    by false f = cc
 reduction_built t (m ∷ k ∷ d ∷ ds) e = cc
 
 aggregation_built : (d : Data) (t : Tree) → agg_of d ≡ Some t → is_built_agg t ≡ true

@@ -8,8 +8,9 @@ use Rattle.px_plan.specs.Tree.{Tree}
 use Rattle.px_plan.specs.View.{tree}
 use Rattle.px_plan.specs.declared.expr.Expr.{Expr}
 use Rattle.px_steps.specs.Built.{is_built_key, is_key}
-use Rattle.px_steps.specs.Form.{each, with_front}
-use Rattle.px_steps.specs.Plain.{key_on, key_refusals}
+use Rattle.px_column.specs.Option.{each}
+use Rattle.px_steps.specs.Form.{with_front}
+use Rattle.px_steps.specs.Direct.{key_on, key_refusals}
 use Rattle.px_steps.proofs.Columns.{both, all_append}
 
 module _ (frame : List Series) (ks : List Expr) (i : ℕ) (k : Expr) (columns new : List Series) (s : Series) (below : i < length ks) (is : k ≡ get_or ks i k) where

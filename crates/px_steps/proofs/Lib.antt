@@ -6,6 +6,7 @@ pub mod Named
 pub mod Columns
 pub mod KeyLoop
 pub mod DocumentSteps
+pub mod Replied
 pub mod StepLoop
 pub mod Endings
 pub mod Command

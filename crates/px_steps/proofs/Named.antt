@@ -15,12 +15,12 @@ use Rattle.px_column.specs.declared.method.GroupByMethod.TheVariants.{Sum}
 use Rattle.px_frame.specs.Aggregate.{summed_by, summed_by_kind, sums_of, counts_of}
 use Rattle.px_frame.specs.Frame.{has_name, has_height, look, height_of, series_at, slots_at, subframe}
 use Rattle.px_frame.specs.Groups.{Group, Groups, rows_of}
-use Rattle.px_plan.specs.Meaning.{name_of}
-use Rattle.px_plan.specs.Refusals.{first_of_two}
+use Rattle.px_plan.specs.Shape.{name_of}
+use Rattle.px_steps.specs.Direct.{first_of_two, key_on, key_refusals, list_refusal, aggregated_on, agg_refusals, value_on_part}
 use Rattle.px_steps.specs.Built.{is_key}
 use Rattle.px_plan.specs.Tree.{column, agg, len}
 use Rattle.px_steps.specs.Meets.{IsFirst, Meets}
-use Rattle.px_steps.specs.Plain.{first_of, key_on, key_refusals, list_refusal, aggregated_on, agg_refusals, value_on_part}
+use Rattle.px_steps.specs.Plain.{first_of}
 
 no_list : (k : Kind) → is_list_kind k ≡ false → list_refusal (Some k) ≡ []
 no_list booleans h = refl

@@ -5,10 +5,9 @@ use Rattle.std.specs.Option.{option_map_or}
 use Rattle.std.proofs.lemmas.List.{at_drop_more}
 use Rattle.px_column.specs.Series.{Series}
 use Rattle.px_column.specs.declared.error.PxError.{PxError}
-use Rattle.px_plan.specs.Refusals.{first_of_two}
+use Rattle.px_steps.specs.Direct.{first_of_two, plain_on, refusals_on, step_on, step_refusals}
 use Rattle.px_steps.specs.Built.{is_built}
 use Rattle.px_steps.specs.Meets.{IsFirst}
-use Rattle.px_steps.specs.Plain.{plain_on, refusals_on, step_on, step_refusals}
 use Rattle.px_steps.specs.Step.{PlainStep, step_view}
 use Rattle.px_steps.specs.declared.step.Step.{Step}
 use Rattle.px_steps.proofs.Columns.{both}

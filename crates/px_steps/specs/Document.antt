@@ -1,5 +1,5 @@
 -- What a document says: columns, and the steps that are done with them.
-use Rattle.std.specs.Prelude.{◌≡◌, ℕ, zero, suc, ◌+◌, ◌-◌, ◌*◌, ◌^◌, ◌<◌, ◌==◌, ◌&&◌, Bool, List, [], ◌∷◌, length, take, drop, nat_lt, Option, Some, None, is_some, map, option_map, option_and_then, if◌then◌else◌, codes, IsUtf8}
+use Rattle.std.specs.Prelude.{◌≡◌, ℕ, zero, suc, ◌+◌, ◌-◌, ◌*◌, ◌^◌, ◌<◌, ◌==◌, ◌&&◌, Bool, false, List, [], ◌∷◌, length, take, drop, nat_lt, Option, Some, None, is_some, map, option_map, option_and_then, unwrap_or, if◌then◌else◌, codes, IsUtf8}
 use Rattle.std.specs.Option.{option_or}
 use Rattle.std.specs.Str.{bytes_eq}
 use Rattle.serde_json.specs.Data.{Data}
@@ -8,10 +8,10 @@ use Rattle.serde_json.specs.Read.{read}
 use Rattle.px_column.specs.Datum.{Datum, boolean, integer, text, bytes, list, Slot, slots}
 use Rattle.px_column.specs.Kind.{Kind, booleans, int8s, int16s, int32s, int64s, uint8s, uint16s, uint32s, uint64s, strings, binaries, nulls, lists, slots_fit}
 use Rattle.px_column.specs.Series.{Series}
-use Rattle.px_column.specs.declared.method.GroupByMethod.{GroupByMethod}
 use Rattle.px_column.specs.declared.method.GroupByMethod.TheVariants.{Sum}
 use Rattle.px_plan.specs.Tree.{Tree, column, agg, len}
-use Rattle.px_steps.specs.Form.{◌>>=◌, each, items, fields, field}
+use Rattle.px_column.specs.Option.{◌>>=◌, each}
+use Rattle.px_steps.specs.Form.{items, fields, field}
 use Rattle.px_steps.specs.Step.{PlainStep, group, step_view}
 use Rattle.px_steps.specs.declared.document.parsed.Parsed.{Parsed}
 
@@ -108,16 +108,13 @@ column_of d = fields (codes "name" ∷ codes "type" ∷ codes "values" ∷ []) d
 abbrev pub key_of : Data → Option Tree
 key_of d = option_map column (field (codes "col") d >>= as_str)
 
--- the reduction of a name
-abbrev pub method_named : List ℕ → Option GroupByMethod
-method_named s = if bytes_eq s (codes "Sum") then Some Sum else None
+-- the text `Sum`
+abbrev pub is_sum : Data → Bool
+is_sum d = unwrap_or (option_map (λ s. bytes_eq s (codes "Sum")) (as_str d)) false
 
 -- the reduction's name, and the column
 abbrev pub reduction_of_parts : List Data → Option Tree
-reduction_of_parts (m ∷ k ∷ []) = do
-  method ← as_str m >>= method_named
-  key ← key_of k
-  Some (agg method key)
+reduction_of_parts (m ∷ k ∷ []) = if is_sum m then option_map (agg Sum) (key_of k) else None
 reduction_of_parts _ = None
 
 -- {"agg": ["Sum", {"col": text}]}

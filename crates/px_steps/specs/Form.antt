@@ -1,24 +1,15 @@
 -- How a document's data is taken apart, and how a reader's answer is told.
-use Rattle.std.specs.Prelude.{◌≡◌, ℕ, suc, ◌==◌, Bool, false, List, [], ◌∷◌, ◌++◌, length, Option, Some, None, option_map, option_and_then, unwrap_or, if◌then◌else◌, Result, Ok, Err}
+use Rattle.std.specs.Prelude.{◌≡◌, ℕ, suc, ◌==◌, Bool, false, List, [], ◌∷◌, ◌++◌, length, Option, Some, None, option_map, unwrap_or, if◌then◌else◌, Result, Ok, Err}
 use Rattle.serde_json.specs.Data.{Data, Items, no_items, item, Members, no_members, member}
 use Rattle.serde_json.specs.Find.{get, as_array, as_object}
+use Rattle.px_column.specs.Option.{◌>>=◌, each}
 use Rattle.px_steps.specs.declared.document.fault.DocumentFault.{DocumentFault}
 use Rattle.px_steps.specs.declared.document.fault.DocumentFault.TheVariants.{BadDocument, OutOfMemory}
-
--- what comes next, where there is a value
-infixl 10 ◌>>=◌
-abbrev pub ◌>>=◌ : {A B : Type 0} → Option A → (A → Option B) → Option B
-o >>= f = option_and_then f o
 
 -- the only item
 abbrev pub only : {A : Type 0} → List A → Option A
 only (x ∷ []) = Some x
 only _ = None
-
--- each item read, where all of them can be
-abbrev pub each : {A B : Type 0} → (A → Option B) → List A → Option (List B)
-each f [] = Some []
-each f (x ∷ xs) = f x >>= λ y. option_map (λ ys. y ∷ ys) (each f xs)
 
 -- what was made so far, before what is made of the rest
 abbrev pub with_front : {B : Type 0} → List B → Option (List B) → Option (List B)

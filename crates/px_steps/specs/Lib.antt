@@ -7,9 +7,11 @@ pub mod Step
 pub mod Document
 pub mod Fault
 pub mod Plain
+pub mod Direct
+pub mod Built
+pub mod DirectLaws
 pub mod Reply
 pub mod Meets
-pub mod Built
 pub mod Replies
 pub mod DocumentView
 pub mod Run

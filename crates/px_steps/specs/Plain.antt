@@ -1,102 +1,197 @@
--- What steps mean on plain frames, and why they are refused.
-use Rattle.std.specs.Prelude.{ℕ, List, [], ◌∷◌, ◌++◌, Option, Some, None, map, option_map, option_and_then, replicate}
-use Rattle.std.specs.List.{flat_map}
-use Rattle.std.specs.Option.{option_map_or}
+-- What steps mean on plain frames, why they are refused, and the faults of their values.
+use Rattle.std.specs.Prelude.{◌≡◌, ℕ, ◌^◌, ◌<◌, Bool, not, ◌==◌, List, [], ◌∷◌, ◌++◌, Option, Some, None, Result, Ok, Err, length, map, max, sum, option_map, if◌then◌else◌}
+use Rattle.std.specs.List.{flat_map, filter_map, list_any, list_all}
+use Rattle.std.specs.Option.{option_map_or, option_or}
+use Rattle.std.specs.Result.{result_ok}
 use Rattle.px_column.specs.Datum.{Slot}
-use Rattle.px_column.specs.Kind.{Kind, lists}
+use Rattle.px_column.specs.Kind.{Kind, lists, is_list_kind}
+use Rattle.px_column.specs.Operator.{is_boolean_kind}
+use Rattle.px_column.specs.Option.{◌>>=◌, each}
 use Rattle.px_column.specs.Series.{Series, slot_at}
 use Rattle.px_column.specs.declared.error.PxError.{PxError}
-use Rattle.px_column.specs.declared.error.PxError.TheVariants.{Duplicate, InvalidOperation, ComputeError}
+use Rattle.px_column.specs.declared.error.PxError.TheVariants.{Duplicate, InvalidOperation, ComputeError, ShapeMismatch, SchemaMismatch}
 use Rattle.px_column.specs.declared.error.InvalidWhy.TheVariants.{ListKey}
-use Rattle.px_column.specs.declared.error.ComputeWhy.TheVariants.{NoKey}
-use Rattle.px_frame.specs.Cell.{Cell, unit, rows, value_of_cell}
-use Rattle.px_frame.specs.Frame.{height_of, subframe, first_repeat}
+use Rattle.px_column.specs.declared.error.ComputeWhy.TheVariants.{NoKey, NotPartitionSafe, ChunkLengths}
+use Rattle.px_frame.specs.Cell.{Cell, value_of_cell}
+use Rattle.px_frame.specs.External.{Frame, height, scope_of, rows_of_frame}
+use Rattle.px_frame.specs.Frame.{height_of, first_repeat}
 use Rattle.px_frame.specs.Groups.{first_row}
 use Rattle.px_frame.specs.Parts.{parts_of}
-use Rattle.px_plan.specs.Meaning.{Shape, one, many, shape_of, name_of, kind_on, value_on}
-use Rattle.px_plan.specs.Refusals.{refusals_of, first_of_two, frame_place, groups_place}
+use Rattle.px_frame.specs.Spread.{NamedCell, spread, spread_column, spread_all, rows_beside, assembled}
+use Rattle.px_plan.specs.Node.{kept_rows}
+use Rattle.px_plan.specs.Partition.{is_elementwise, is_partition_safe}
+use Rattle.px_plan.specs.Shape.{is_unit, name_of}
+use Rattle.px_plan.specs.Size.{size_on}
 use Rattle.px_plan.specs.Tree.{Tree}
-use Rattle.px_steps.specs.Form.{each, with_front}
-use Rattle.px_steps.specs.Step.{PlainStep, group}
+use Rattle.px_plan.specs.Typing.{Scope, kind_in, refusals_of, refused_where, fails, not_list}
+use Rattle.px_plan.specs.Value.{value_on, named, faults_on, has_misfit}
+use Rattle.px_plan.specs.declared.context.Context.TheVariants.{Default, Aggregation}
+use Rattle.px_steps.specs.Step.{PlainStep, select, filter, group}
 
--- a unit stands at each of n rows, rows stand as they are
-abbrev pub spread : ℕ → Cell → List Slot
-spread n (unit s) = replicate n s
-spread n (rows xs) = xs
+-- an expression's value, under its name and type
+abbrev pub named_value : Frame → Tree → Option NamedCell
+named_value frame e = value_on e frame >>= named e frame
 
 -- a key as a column of the frame's height
-abbrev pub key_on : List Series → Tree → Option Series
-key_on frame e = option_and_then (λ k. option_map (λ c. record { name = name_of e; kind = k; slots = spread (height_of frame) c }) (value_on e frame)) (kind_on e frame)
+abbrev pub key_on : Frame → Tree → Option Series
+key_on frame e = named_value frame e >>= λ c. result_ok (spread_column (height frame) c)
 
 -- a key's values, at the first row of each part
 abbrev pub key_values : List (List ℕ) → Series → Series
-key_values ps s = record s { slots = map (λ p. slot_at s.slots (first_row p)) ps }
+key_values parts s = record s { slots = map (λ p. slot_at s.slots (first_row p)) parts }
 
--- the type of an aggregation's column: where it has many values on a part, a list of them
-abbrev pub grouped_kind : Shape → Kind → Kind
-grouped_kind one k = k
-grouped_kind many k = lists k
+-- the type of an aggregation's column: where it has a list of rows on a part, a list of them
+abbrev pub grouped_kind : Tree → Kind → Kind
+grouped_kind e k = if is_unit e then k else lists k
 
 -- an aggregation's value on the frame of one part's rows alone
-abbrev pub value_on_part : List Series → Tree → List ℕ → Slot
-value_on_part frame e p = option_map_or value_of_cell (value_on e (subframe frame p)) None
+abbrev pub value_on_part : Frame → Tree → List ℕ → Option Slot
+value_on_part frame e part = option_map value_of_cell (value_on e (rows_of_frame frame part))
 
 -- an aggregation's column, with a row for each part
-abbrev pub aggregated_on : List Series → List (List ℕ) → Tree → Option Series
-aggregated_on frame ps e = option_map (λ k. record { name = name_of e; kind = grouped_kind (shape_of e) k; slots = map (value_on_part frame e) ps }) (kind_on e frame)
+abbrev pub aggregated_on : Frame → List (List ℕ) → Tree → Option Series
+aggregated_on frame parts e = do
+  k ← kind_in e (scope_of frame)
+  values ← each (value_on_part frame e) parts
+  Some (record { name = name_of e; kind = grouped_kind e k; slots = values })
 
--- for each part of the frame by the keys, the keys' values and then each aggregation's
-abbrev pub columns_on : List Series → List Series → List Tree → Option (List Series)
-columns_on frame by aggs =
-    let ps = parts_of by (height_of frame) in
-    with_front (map (key_values ps) by) (each (aggregated_on frame ps) aggs)
+-- for each part of the frame by these key columns, the keys' values and then each aggregation's
+abbrev pub columns_on : Frame → List Tree → List Series → Option (List Series)
+columns_on frame aggs by = do
+  columns ← each (aggregated_on frame (parts_of by (height frame))) aggs
+  Some (map (key_values (parts_of by (height frame))) by ++ columns)
 
--- the frame that a step makes of a frame
-abbrev pub step_on : PlainStep → List Series → Option (List Series)
-step_on (group keys aggs chunks) frame = option_and_then (λ by. columns_on frame by aggs) (each (key_on frame) keys)
+-- a column's rows whose mask is true
+abbrev pub kept : List Slot → Series → Series
+kept mask s = record s { slots = kept_rows mask s.slots }
+
+-- the columns that a step makes of a frame
+abbrev pub columns_made : PlainStep → Frame → Option (List Series)
+columns_made (select es) frame = each (named_value frame) es >>= λ cells. result_ok (assembled cells)
+columns_made (filter e) frame = do
+  mask ← value_on e frame
+  truths ← result_ok (spread (height frame) mask)
+  Some (map (kept truths) frame.columns)
+columns_made (group keys aggs chunks) frame = each (key_on frame) keys >>= columns_on frame aggs
+
+-- the frame that a step makes of a frame; what stands beside it stays as it is
+abbrev pub step_on : PlainStep → Frame → Option Frame
+step_on s frame = option_map (λ columns. record frame { columns = columns }) (columns_made s frame)
 
 -- the frame that steps make, one after another
-abbrev pub plain_on : List PlainStep → List Series → Option (List Series)
+abbrev pub plain_on : List PlainStep → Frame → Option Frame
 plain_on [] frame = Some frame
-plain_on (s ∷ steps) frame = option_and_then (plain_on steps) (step_on s frame)
+plain_on (s ∷ steps) frame = step_on s frame >>= plain_on steps
+
+-- an expression over a frame's names and types is refused on the frame, or on groups
+abbrev pub frame_refusals : Frame → Tree → List PxError
+frame_refusals frame e = refusals_of e (scope_of frame) Default
+
+abbrev pub agg_refusals : Frame → Tree → List PxError
+agg_refusals frame e = refusals_of e (scope_of frame) Aggregation
+
+-- a key is typed on the frame, and is no list
+abbrev pub key_refusals : Frame → Tree → List PxError
+key_refusals frame e = frame_refusals frame e ++ refused_where (fails not_list (kind_in e (scope_of frame))) (InvalidOperation ListKey)
 
 abbrev pub no_key_refusal : List Tree → List PxError
 no_key_refusal [] = ComputeError NoKey ∷ []
 no_key_refusal (k ∷ keys) = []
 
-abbrev pub list_refusal : Option Kind → List PxError
-list_refusal (Some (lists k)) = InvalidOperation ListKey ∷ []
-list_refusal _ = []
+-- a name that stands twice in the result
+abbrev pub repeat_refusal : List Tree → List PxError
+repeat_refusal es = option_map_or (λ n. Duplicate n ∷ []) (first_repeat [] (map name_of es)) []
 
--- a key is typed on the frame, and is no list
-abbrev pub key_refusals : List Series → Tree → List PxError
-key_refusals frame e = first_of_two (refusals_of e frame frame_place) (list_refusal (kind_on e frame))
+-- chunks need elementwise keys and aggregations that can be merged, and their lengths make up the height
+abbrev pub chunk_refusals : Frame → List Tree → List Tree → Option (List ℕ) → List PxError
+chunk_refusals frame keys aggs None = []
+chunk_refusals frame keys aggs (Some chunks) =
+    refused_where (list_any (λ e. not (is_elementwise e (scope_of frame))) keys) (ComputeError NotPartitionSafe)
+    ++ refused_where (list_any (λ e. not (is_partition_safe e (scope_of frame))) aggs) (ComputeError NotPartitionSafe)
+    ++ refused_where (not (sum chunks == height frame)) (ComputeError ChunkLengths)
 
--- an aggregation is typed on groups
-abbrev pub agg_refusals : List Series → Tree → List PxError
-agg_refusals frame e = refusals_of e frame groups_place
-
-abbrev pub repeat_refusal : Option (List ℕ) → List PxError
-repeat_refusal None = []
-repeat_refusal (Some n) = Duplicate n ∷ []
-
--- why a step is refused on a frame, the first refusal first: there is no key; the expressions' own, keys before
--- aggregations; a name that stands twice in the result
-abbrev pub step_refusals : PlainStep → List Series → List PxError
+-- why a step is refused on a frame, the first refusal deciding: there is no key; the expressions' own, from left to right;
+-- a name that stands twice in the result; the chunks
+abbrev pub step_refusals : PlainStep → Frame → List PxError
+step_refusals (select es) frame = flat_map (frame_refusals frame) es ++ repeat_refusal es
+step_refusals (filter e) frame = frame_refusals frame e ++ refused_where (fails is_boolean_kind (kind_in e (scope_of frame))) SchemaMismatch
 step_refusals (group keys aggs chunks) frame =
-    first_of_two (no_key_refusal keys)
-    (first_of_two (flat_map (key_refusals frame) keys ++ flat_map (agg_refusals frame) aggs)
-    (repeat_refusal (first_repeat [] (map name_of keys ++ map name_of aggs))))
-
--- why steps are refused: the first step's refusals, or those of the others on the frame that it makes
-abbrev pub refusals_on : List PlainStep → List Series → List PxError
-refusals_on [] frame = []
-refusals_on (s ∷ steps) frame = first_of_two (step_refusals s frame) (option_map_or (refusals_on steps) (step_on s frame) [])
+    no_key_refusal keys ++ flat_map (key_refusals frame) keys ++ flat_map (agg_refusals frame) aggs
+    ++ repeat_refusal (keys ++ aggs) ++ chunk_refusals frame keys aggs chunks
 
 abbrev pub first_of : List PxError → Option PxError
 first_of [] = None
 first_of (e ∷ es) = Some e
 
--- the first refusal, where there is one
-abbrev pub first_refusal : List PlainStep → List Series → Option PxError
-first_refusal steps frame = first_of (refusals_on steps frame)
+-- the first refusal of a step, where there is one
+abbrev pub first_refusal : PlainStep → Frame → Option PxError
+first_refusal s frame = first_of (step_refusals s frame)
+
+abbrev pub refused_by : {A : Type 0} → Result A PxError → List PxError
+refused_by (Ok a) = []
+refused_by (Err e) = e ∷ []
+
+-- lists of a result that are not equally long
+abbrev pub uneven_fault : List NamedCell → List PxError
+uneven_fault cells = refused_by (spread_all (rows_beside (map (λ c. c.cell) cells)) cells)
+
+-- a cell that has not the frame's height
+abbrev pub height_fault : Frame → Option Cell → List PxError
+height_fault frame None = []
+height_fault frame (Some c) = refused_by (spread (height frame) c)
+
+-- a column beside the frame that is named and has not its height
+abbrev pub misfit_faults : Frame → List Tree → List PxError
+misfit_faults frame es = refused_where (list_any (λ e. has_misfit e frame) es) ShapeMismatch
+
+-- the frames of the parts by some keys, none where a key has no value of the frame's height
+abbrev pub group_frames : Frame → Option (List Series) → List Frame
+group_frames frame None = []
+group_frames frame (Some by) = map (rows_of_frame frame) (parts_of by (height frame))
+
+abbrev pub frames_by : Frame → List Tree → List Frame
+frames_by frame keys = group_frames frame (each (key_on frame) keys)
+
+-- the faults of a step that is not refused: its expressions', an aggregation's on each group, and those of lists that are
+-- not as long as they are to be
+abbrev pub step_faults : PlainStep → Frame → List PxError
+step_faults (select es) frame =
+    flat_map (λ e. faults_on e frame) es ++ uneven_fault (filter_map (named_value frame) es) ++ misfit_faults frame es
+step_faults (filter e) frame =
+    faults_on e frame ++ height_fault frame (value_on e frame) ++ misfit_faults frame (e ∷ [])
+step_faults (group keys aggs chunks) frame =
+    flat_map (λ e. faults_on e frame) keys ++ flat_map (λ e. height_fault frame (value_on e frame)) keys
+    ++ flat_map (λ e. flat_map (faults_on e) (frames_by frame keys)) aggs ++ misfit_faults frame (keys ++ aggs)
+
+-- the greatest of some numbers, 0 of none
+abbrev pub greatest : List ℕ → ℕ
+greatest [] = 0
+greatest (n ∷ ns) = max n (greatest ns)
+
+-- the number of rows that a step makes
+abbrev pub height_made : PlainStep → Frame → ℕ
+height_made s frame = option_map_or height_of (columns_made s frame) 0
+
+-- the greatest number of values of the result or of an expression of the step, an aggregation's over all groups together
+abbrev pub step_size : PlainStep → Frame → ℕ
+step_size (select es) frame = max (height_made (select es) frame) (greatest (map (λ e. size_on e (frame ∷ [])) es))
+step_size (filter e) frame = max (height_made (filter e) frame) (size_on e (frame ∷ []))
+step_size (group keys aggs chunks) frame =
+    max (height_made (group keys aggs chunks) frame)
+    (max (greatest (map (λ e. size_on e (frame ∷ [])) keys)) (greatest (map (λ e. size_on e (frames_by frame keys)) aggs)))
+
+-- a step that is not refused, has no fault and makes fewer than 2^32 values of any kind
+pub record IsValid (s : PlainStep) (frame : Frame) : Type 0 where
+  pub accepted : first_refusal s frame ≡ None
+  pub sound : step_faults s frame ≡ []
+  pub short : step_size s frame < 2 ^ 32
+
+-- each step is valid on the frame that those before it make
+abbrev pub AreValid : List PlainStep → Frame → Type 0
+AreValid [] frame = Unit {0}
+AreValid (s ∷ steps) frame = IsValid s frame × ((next : Frame) → step_on s frame ≡ Some next → AreValid steps next)
+
+-- the steps run as far as they are not refused and have values: the first refusal, where there is one
+abbrev pub first_refusal_of : List PlainStep → Frame → Option PxError
+first_refusal_of [] frame = None
+first_refusal_of (s ∷ steps) frame = option_or (first_refusal s frame) (option_map_or (first_refusal_of steps) (step_on s frame) None)

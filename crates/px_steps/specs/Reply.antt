@@ -5,7 +5,8 @@ use Rattle.px_column.specs.declared.error.PxError.{PxError}
 use Rattle.px_frame.specs.Frame.{IsFrame, height_of}
 use Rattle.px_steps.specs.Document.{Doc, IsDocumentText}
 use Rattle.px_steps.specs.Label.{line_of, bad_document_line}
-use Rattle.px_steps.specs.Plain.{first_refusal, plain_on}
+use Rattle.px_frame.specs.External.{alone}
+use Rattle.px_steps.specs.Plain.{first_refusal_of, plain_on}
 use Rattle.px_steps.specs.Text.{text_of}
 
 -- the bytes say this document, and its columns are a frame: distinct names, one length
@@ -17,9 +18,9 @@ pub record IsDocument (bytes : List ℕ) (doc : Doc) : Type 0 where
 pub record IsResult (bytes text : List ℕ) : Type 0 where
   pub doc : Doc
   pub document : IsDocument bytes doc
-  pub valid : first_refusal doc.steps doc.columns ≡ None
+  pub valid : first_refusal_of doc.steps (alone doc.columns) ≡ None
   pub made : List Series
-  pub plain : plain_on doc.steps doc.columns ≡ Some made
+  pub plain : plain_on doc.steps (alone doc.columns) ≡ Some (alone made)
   pub written : text ≡ text_of made (height_of made)
 
 -- a step is refused, and the text is the line of the first refusal
@@ -27,7 +28,7 @@ pub record IsRefusal (bytes text : List ℕ) : Type 0 where
   pub doc : Doc
   pub document : IsDocument bytes doc
   pub fault : PxError
-  pub first : first_refusal doc.steps doc.columns ≡ Some fault
+  pub first : first_refusal_of doc.steps (alone doc.columns) ≡ Some fault
   pub written : text ≡ line_of fault
 
 -- the bytes say no document, and the text is the line that tells so

@@ -3,12 +3,18 @@ use Rattle.std.specs.Prelude.{ℕ, List, Option, map, option_map}
 use Rattle.px_plan.specs.Tree.{Tree}
 use Rattle.px_plan.specs.View.{tree}
 use Rattle.px_steps.specs.declared.step.Step.{Step}
-use Rattle.px_steps.specs.declared.step.Step.TheVariants.{GroupAgg}
+use Rattle.px_steps.specs.declared.step.Step.TheVariants.{Select, Filter, GroupAgg}
 
--- the keys, the aggregations and the chunk lengths
 pub data PlainStep : Type 0 where
+  -- the columns of the result
+  select : List Tree → PlainStep
+  -- the mask of the rows that stay
+  filter : Tree → PlainStep
+  -- the keys, the aggregations and the chunk lengths
   group : List Tree → List Tree → Option (List ℕ) → PlainStep
 
 -- each expression seen as its tree
 abbrev pub step_view : Step → PlainStep
+step_view (Select exprs) = select (map tree exprs.items)
+step_view (Filter mask) = filter (tree mask)
 step_view (GroupAgg keys aggs chunks) = group (map tree keys.items) (map tree aggs.items) (option_map (λ v. v.items) chunks)

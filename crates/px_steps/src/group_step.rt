@@ -7,14 +7,14 @@ ghost use Rattle.px_column.specs.declared.method.GroupByMethod.TheVariants.{Sum}
 ghost use Rattle.px_frame.specs.Frame.{first_repeat, height_of, look, names_of};
 ghost use Rattle.px_frame.specs.Groups.{groups_by, rows_of};
 ghost use Rattle.px_frame.specs.Aggregate.{has_row};
-ghost use Rattle.px_plan.specs.Meaning.{name_of};
-ghost use Rattle.px_plan.specs.Refusals.{first_of_two};
+ghost use Rattle.px_plan.specs.Shape.{name_of};
+ghost use Rattle.px_steps.specs.Direct.{first_of_two, key_on, key_refusals, aggregated_on, agg_refusals, columns_on, repeat_refusal, step_on, step_refusals};
 ghost use Rattle.px_plan.specs.Tree.{column, agg, len};
-ghost use Rattle.px_plan.specs.View.{tree};
+ghost use Rattle.px_plan.specs.View.{agg_tree, tree};
 ghost use Rattle.px_steps.specs.Built.{is_built, is_built_key, is_built_agg, is_key};
-ghost use Rattle.px_steps.specs.Form.{each, with_front};
+ghost use Rattle.px_column.specs.Option.{each};
+ghost use Rattle.px_steps.specs.Form.{with_front};
 ghost use Rattle.px_steps.specs.Meets.{Meets, MeetsBy};
-ghost use Rattle.px_steps.specs.Plain.{key_on, key_refusals, aggregated_on, agg_refusals, columns_on, repeat_refusal, step_on, step_refusals};
 ghost use Rattle.px_steps.specs.Step.{group};
 
 use px_column::{Column, ComputeWhy, InvalidWhy, Name, Px, PxError, Steps};
@@ -82,6 +82,33 @@ fn group_lengths(alloc: Global, frame: &DataFrame, groups: &GroupPositions) -> P
     )
 }
 
+/// A reduction's value for each group.
+fn reduction<L: Ledger>(
+    alloc: Global,
+    frame: &DataFrame,
+    groups: &GroupPositions,
+    reduction: &AggExpr,
+    kernels: &mut Steps<L>,
+) -> Px<Column>
+    requires built { is_built_agg (agg_tree reduction.now) ≡ true }
+    requires height { groups.now.height ≡ height_of frame.now }
+    ensures { Meets result (agg_refusals frame.now (agg_tree reduction.now)) (aggregated_on frame.now (rows_of groups.now) (agg_tree reduction.now)) }
+{
+    match reduction {
+        AggExpr::Sum(input) => match &**input {
+            Expr::Column(name) => sum_named(alloc, frame, groups, name, kernels),
+            _ => unreachable!(),
+        },
+        AggExpr::Min(_)
+        | AggExpr::Max(_)
+        | AggExpr::First(_)
+        | AggExpr::Last(_)
+        | AggExpr::NUnique(_)
+        | AggExpr::Implode(_)
+        | AggExpr::Count(..) => unreachable!(),
+    }
+}
+
 /// An aggregation's value for each group.
 fn aggregation<L: Ledger>(
     alloc: Global,
@@ -97,11 +124,8 @@ fn aggregation<L: Ledger>(
 {
     match expr {
         Expr::Len => group_lengths(alloc, frame, groups),
-        Expr::Agg(AggExpr::Sum(input)) => match &**input {
-            Expr::Column(name) => sum_named(alloc, frame, groups, name, kernels),
-            _ => unreachable!(),
-        },
-        Expr::Column(_) => unreachable!(),
+        Expr::Agg(input) => reduction(alloc, frame, groups, input, kernels),
+        _ => unreachable!(),
     }
 }
 

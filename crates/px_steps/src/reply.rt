@@ -1,5 +1,6 @@
 //! What is written for an input.
-ghost use Rattle.std.specs.Prelude.{◌≡◌, ℕ, List, IfOk};
+ghost use Rattle.std.specs.Prelude.{◌≡◌, ℕ, List, IfOk, OnOk};
+ghost use Rattle.px_column.specs.declared.error.PxError.TheVariants.{OutOfMemory};
 ghost use Rattle.px_frame.specs.Frame.{height_of};
 ghost use Rattle.px_steps.specs.Label.{line_of};
 ghost use Rattle.px_steps.specs.Replies.{Grouped, Replies};
@@ -35,12 +36,23 @@ fn frame_reply(alloc: Global, frame: &DataFrame) -> Result<Reply, AllocError>
     }
 }
 
-fn fault_reply(alloc: Global, fault: &PxError) -> Result<Reply, AllocError>
+fn refusal_reply(alloc: Global, fault: &PxError) -> Result<Reply, AllocError>
     ensures { IfOk result (λ r. (t : List ℕ) × (r ≡ Refusal t) × (t ≡ line_of fault.now)) }
 {
     match error_line(alloc, fault) {
         Ok(line) => Ok(Reply::Refusal(line)),
         Err(_) => Err(AllocError),
+    }
+}
+
+/// The line of a refusal; want of memory is told without one.
+fn fault_reply(alloc: Global, fault: &PxError) -> Result<Reply, AllocError>
+    ensures line { IfOk result (λ r. (t : List ℕ) × (r ≡ Refusal t) × (t ≡ line_of fault.now)) }
+    ensures cause { OnOk result (fault.now ≡ OutOfMemory → ⊥) }
+{
+    match fault {
+        PxError::OutOfMemory => Err(AllocError),
+        _ => refusal_reply(alloc, fault),
     }
 }
 
@@ -62,7 +74,6 @@ pub(crate) fn reply_to<L: Ledger, M: Ledger>(
     };
     match run_plain_steps(alloc, document.frame, &document.steps, kernels, groupings) {
         Ok(frame) => frame_reply(alloc, &frame),
-        Err(PxError::OutOfMemory) => Err(AllocError),
         Err(fault) => fault_reply(alloc, &fault),
     }
 }

@@ -3,7 +3,8 @@ ghost use Rattle.std.specs.Prelude.{◌≡◌, ◌≢◌, ◌↔◌, ◌⊎◌, 
 ghost use Rattle.px_steps.specs.Document.{Doc};
 ghost use Rattle.px_steps.specs.Ends.{Rose, TakesAll, TakesPart};
 ghost use Rattle.px_steps.specs.Label.{bad_document_line};
-ghost use Rattle.px_steps.specs.Plain.{first_refusal};
+ghost use Rattle.px_frame.specs.External.{alone};
+ghost use Rattle.px_steps.specs.Plain.{first_refusal_of};
 ghost use Rattle.px_steps.specs.Reply.{IsDocument};
 ghost use Rattle.px_steps.specs.Run.{Calm, Ends, IsCommand, Silent};
 
@@ -133,7 +134,7 @@ pub fn run<S: Source, K: Sink, L: Ledger, M: Ledger>(
     ensures complete { (b : List ℕ) (doc : Doc) →
         S.left source.old ≡ Some b →
         IsDocument b doc →
-        first_refusal doc.steps doc.columns ≡ None →
+        first_refusal_of doc.steps (alone doc.columns) ≡ None →
         IsCommand (map string_bytes words.now) →
         Calm (S.faults source.old) (S.faults source.new) →
         Calm (K.faults sink.old) (K.faults sink.new) →

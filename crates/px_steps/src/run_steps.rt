@@ -3,7 +3,7 @@ ghost use Rattle.std.specs.Prelude.{◌≡◌, ◌+◌, OnOk, length, map, true}
 ghost use Rattle.std.specs.List.{list_all};
 ghost use Rattle.px_steps.specs.Built.{is_built};
 ghost use Rattle.px_steps.specs.Meets.{Meets};
-ghost use Rattle.px_steps.specs.Plain.{plain_on, refusals_on, step_on, step_refusals};
+ghost use Rattle.px_steps.specs.Direct.{plain_on, refusals_on, step_on, step_refusals};
 ghost use Rattle.px_steps.specs.Step.{step_view};
 
 use crate::group_step::group_step;
@@ -29,6 +29,7 @@ fn run_step<L: Ledger, M: Ledger>(
         Step::GroupAgg { keys, aggs, .. } => {
             group_step(alloc, frame, keys, aggs, kernels, groupings)
         }
+        _ => unreachable!(),
     }
 }
 

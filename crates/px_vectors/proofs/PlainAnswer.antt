@@ -9,11 +9,11 @@ use Rattle.px_column.specs.declared.error.PxError.{PxError}
 use Rattle.px_column.specs.declared.error.PxError.TheVariants.{ColumnNotFound, Duplicate, InvalidOperation, ComputeError, OutOfBounds, ShapeMismatch, SchemaMismatch, OutOfMemory}
 use Rattle.px_frame.specs.Frame.{first_repeat, frame_of, height_of, is_even, names_of, unless_repeated}
 use Rattle.px_frame.specs.Parts.{parts_of}
-use Rattle.px_plan.specs.Meaning.{name_of}
-use Rattle.px_plan.specs.Refusals.{first_of_two}
+use Rattle.px_plan.specs.Shape.{name_of}
+use Rattle.px_steps.specs.Direct.{first_of_two, agg_refusals, aggregated_on, columns_on, key_on, key_refusals, refusals_on, repeat_refusal, step_on}
 use Rattle.px_plan.specs.Tree.{Tree, column}
-use Rattle.px_steps.specs.Form.{each}
-use Rattle.px_steps.specs.Plain.{agg_refusals, aggregated_on, columns_on, first_of, key_on, key_refusals, key_values, no_key_refusal, refusals_on, repeat_refusal, step_on}
+use Rattle.px_column.specs.Option.{each}
+use Rattle.px_steps.specs.Plain.{first_of, key_values, no_key_refusal}
 use Rattle.px_steps.specs.Step.{group}
 use Rattle.px_vectors.specs.PlainStep.{Makes}
 use Rattle.px_vectors.proofs.PlainNames.{made_names, made_even}

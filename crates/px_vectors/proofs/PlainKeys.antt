@@ -6,7 +6,7 @@ use Rattle.px_column.specs.declared.error.PxError.TheVariants.{ColumnNotFound, I
 use Rattle.px_column.specs.declared.error.InvalidWhy.TheVariants.{ListKey}
 use Rattle.px_frame.specs.Frame.{look}
 use Rattle.px_plan.specs.Tree.{column}
-use Rattle.px_steps.specs.Plain.{key_on, key_refusals, list_refusal}
+use Rattle.px_steps.specs.Direct.{key_on, key_refusals, list_refusal}
 
 not_list : (k : Kind) → is_list_kind k ≡ false → list_refusal (Some k) ≡ []
 not_list booleans h = refl

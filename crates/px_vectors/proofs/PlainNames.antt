@@ -10,10 +10,11 @@ use Rattle.px_frame.specs.Cell.{Cell}
 use Rattle.px_frame.specs.Frame.{all_have_height, has_height, height_of, is_even, names_of}
 use Rattle.px_frame.specs.Groups.{first_row}
 use Rattle.px_frame.proofs.Each.{both}
-use Rattle.px_plan.specs.Meaning.{kind_on, name_of, shape_of, value_on}
+use Rattle.px_steps.specs.Direct.{kind_on, value_on, aggregated_on, grouped_kind, key_on, spread, value_on_part}
+use Rattle.px_plan.specs.Shape.{name_of, is_unit}
 use Rattle.px_plan.specs.Tree.{Tree}
-use Rattle.px_steps.specs.Form.{each}
-use Rattle.px_steps.specs.Plain.{aggregated_on, grouped_kind, key_on, key_values, spread, value_on_part}
+use Rattle.px_column.specs.Option.{each}
+use Rattle.px_steps.specs.Plain.{key_values}
 use Rattle.px_vectors.proofs.EachMade.{each_maps, each_passes}
 
 key_name : (n : List ℕ) (h : ℕ) (k : Option Kind) (v : Option Cell) (s : Series) → option_and_then (λ j. option_map (λ c. record { name = n; kind = j; slots = spread h c }) v) k ≡ Some s → s.name ≡ n
@@ -50,7 +51,7 @@ module _ (frame : List Series) (ps : List (List ℕ)) where
       record { named = ap (λ t. t.name) same; tall = ap (λ t. length t.slots) same ∙ length-map ps value }
 
   aggregated : (e : Tree) (s : Series) → aggregated_on frame ps e ≡ Some s → IsAggregated (name_of e) s
-  aggregated e s h = one_aggregated (name_of e) (grouped_kind (shape_of e)) (value_on_part frame e) (kind_on e frame) s h
+  aggregated e s h = one_aggregated (name_of e) (grouped_kind (is_unit e)) (value_on_part frame e) (kind_on e frame) s h
 
   agg_names : (aggs : List Tree) (values : List Series) → each (aggregated_on frame ps) aggs ≡ Some values → names_of values ≡ map name_of aggs
   agg_names aggs values = each_maps (aggregated_on frame ps) (λ s. s.name) name_of (λ e s h. (aggregated e s h).named) aggs values

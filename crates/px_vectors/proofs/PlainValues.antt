@@ -12,7 +12,7 @@ use Rattle.px_column.specs.declared.method.GroupByMethod.TheVariants.{Sum}
 use Rattle.px_frame.specs.Cell.{unit, value_of_cell}
 use Rattle.px_frame.specs.Frame.{has_name, look, series_at, slots_at, subframe}
 use Rattle.px_frame.specs.Groups.{first_row}
-use Rattle.px_plan.specs.Meaning.{kind_on, reduced_kind, value_on}
+use Rattle.px_steps.specs.Direct.{kind_on, direct_kind, value_on}
 use Rattle.px_plan.specs.Tree.{Tree, column, agg, len}
 use Rattle.px_steps.specs.Plain.{key_values}
 

@@ -11,10 +11,11 @@ ghost use Rattle.px_column.specs.View.{slot_of, slots_of};
 ghost use Rattle.px_frame.specs.Cell.{value_of_cell};
 ghost use Rattle.px_frame.specs.Frame.{are_below, height_of, series_at, slots_at, subframe};
 ghost use Rattle.px_frame.specs.Groups.{first_row};
-ghost use Rattle.px_plan.specs.Meaning.{kind_on, name_of, value_on};
+ghost use Rattle.px_steps.specs.Direct.{kind_on, value_on, agg_refusals, aggregated_on, columns_on, first_refusal, key_on, key_refusals, refusals_on, step_on, value_on_part};
+ghost use Rattle.px_plan.specs.Shape.{name_of};
 ghost use Rattle.px_plan.specs.Tree.{column};
-ghost use Rattle.px_steps.specs.Form.{each};
-ghost use Rattle.px_steps.specs.Plain.{agg_refusals, aggregated_on, columns_on, first_refusal, key_on, key_refusals, key_values, refusals_on, step_on, value_on_part};
+ghost use Rattle.px_column.specs.Option.{each};
+ghost use Rattle.px_steps.specs.Plain.{key_values};
 ghost use Rattle.px_vectors.specs.PlainStep.{IsPart, Makes, MakesBy, step_by, tree_of};
 
 use crate::plain::plain_parts;

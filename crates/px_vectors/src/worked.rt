@@ -10,7 +10,7 @@ ghost use Rattle.px_frame.specs.Parts.{parts_of};
 ghost use Rattle.px_plan.specs.Tree.{column, len};
 ghost use Rattle.px_steps.specs.Document.{document_of};
 ghost use Rattle.px_steps.specs.Label.{line_of, bad_document_line};
-ghost use Rattle.px_steps.specs.Plain.{step_on, first_refusal};
+ghost use Rattle.px_steps.specs.Direct.{step_on, first_refusal};
 ghost use Rattle.px_steps.specs.Reply.{IsNoDocument, IsRefusal, IsResult};
 ghost use Rattle.px_steps.specs.Step.{group};
 ghost use Rattle.px_steps.specs.Text.{kind_name, quoted, slot_text, text_of};

@@ -4,7 +4,8 @@ ghost use Rattle.serde_json.specs.View.{view};
 ghost use Rattle.px_column.specs.KindView.{kind_of};
 ghost use Rattle.px_column.specs.View.{slots_of};
 ghost use Rattle.px_steps.specs.Document.{column_of, column_with};
-ghost use Rattle.px_steps.specs.Form.{Reads, ReadsBy, each};
+ghost use Rattle.px_steps.specs.Form.{Reads, ReadsBy};
+ghost use Rattle.px_column.specs.Option.{each};
 
 use crate::document::fault::DocumentFault;
 use crate::document::fields::{items, read_text, three_fields};

@@ -1,14 +1,13 @@
 //! Reading expressions.
-ghost use Rattle.std.specs.Prelude.{◌≡◌, map, option_and_then};
-ghost use Rattle.serde_json.specs.Find.{as_str};
+ghost use Rattle.std.specs.Prelude.{◌≡◌, map};
 ghost use Rattle.serde_json.specs.View.{view};
 ghost use Rattle.px_plan.specs.View.{tree};
-ghost use Rattle.px_steps.specs.Document.{key_of, agg_of, reduction_of, is_len, method_named};
-ghost use Rattle.px_steps.specs.Form.{Reads, ReadsBy, each};
+ghost use Rattle.px_steps.specs.Document.{key_of, agg_of, reduction_of, is_len, is_sum};
+ghost use Rattle.px_steps.specs.Form.{ReadsBy};
+ghost use Rattle.px_column.specs.Option.{each};
 
 use crate::document::fault::DocumentFault;
 use crate::document::fields::{field, items, read_text};
-use px_column::GroupByMethod;
 use px_plan::{AggExpr, Expr};
 use serde_json::Value;
 use std::alloc::Global;
@@ -30,21 +29,13 @@ fn is_len(value: &Value) -> bool
     }
 }
 
-fn method_named(name: &str) -> Option<GroupByMethod>
-    ensures { result ≡ method_named name.now }
+fn is_sum(value: &Value) -> bool
+    ensures { result ≡ is_sum (view value.now) }
 {
-    if name == "Sum" {
-        Some(GroupByMethod::Sum)
-    } else {
-        None
+    match value.as_str() {
+        Some(name) => name == "Sum",
+        None => false,
     }
-}
-
-fn read_method(value: &Value) -> Result<GroupByMethod, DocumentFault>
-    ensures { Reads result (option_and_then method_named (as_str (view value.now))) }
-{
-    let name = value.as_str().ok_or(DocumentFault::BadDocument)?;
-    method_named(name).ok_or(DocumentFault::BadDocument)
 }
 
 fn read_reduction(alloc: Global, value: &Value) -> Result<Expr, DocumentFault>
@@ -54,12 +45,11 @@ fn read_reduction(alloc: Global, value: &Value) -> Result<Expr, DocumentFault>
     let Some([method, input]) = parts else {
         return Err(DocumentFault::BadDocument);
     };
-    match read_method(method)? {
-        GroupByMethod::Sum => {
-            let input = read_key(alloc, input)?;
-            Ok(Expr::Agg(AggExpr::Sum(Box::new(alloc, input)?)))
-        }
+    if !is_sum(method) {
+        return Err(DocumentFault::BadDocument);
     }
+    let input = read_key(alloc, input)?;
+    Ok(Expr::Agg(AggExpr::Sum(Box::new(alloc, input)?)))
 }
 
 /// An aggregation: `{"len": null}` or `{"agg": ["Sum", {"col": text}]}`.

@@ -5,7 +5,8 @@ ghost use Rattle.serde_json.specs.View.{view};
 ghost use Rattle.px_column.specs.KindView.{kind_of};
 ghost use Rattle.px_column.specs.View.{datum_of, slot_of, slots_of};
 ghost use Rattle.px_steps.specs.Document.{bytes_of_hex, list_of, place_of};
-ghost use Rattle.px_steps.specs.Form.{Reads, ReadsBy, each, items};
+ghost use Rattle.px_steps.specs.Form.{Reads, ReadsBy, items};
+ghost use Rattle.px_column.specs.Option.{each};
 
 use crate::document::fault::DocumentFault;
 use crate::document::fields::{items, read_text};

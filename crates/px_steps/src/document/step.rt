@@ -2,7 +2,8 @@
 ghost use Rattle.std.specs.Prelude.{map};
 ghost use Rattle.serde_json.specs.View.{view};
 ghost use Rattle.px_steps.specs.Document.{step_of, steps_of};
-ghost use Rattle.px_steps.specs.Form.{ReadsBy, each};
+ghost use Rattle.px_steps.specs.Form.{ReadsBy};
+ghost use Rattle.px_column.specs.Option.{each};
 ghost use Rattle.px_steps.specs.Step.{step_view};
 
 use crate::document::expr::{read_aggregations, read_keys};

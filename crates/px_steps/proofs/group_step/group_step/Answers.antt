@@ -1,8 +1,8 @@
 use Rattle.std.proofs.Common.{◌≡◌, ◌++◌, [], ◌∷◌, None, Some, ap, arith, refl, map}
 use Rattle.std.proofs.lemmas.List.{length-map}
 use Rattle.px_plan.specs.View.{tree}
-use Rattle.px_steps.specs.Form.{each}
-use Rattle.px_steps.specs.Plain.{key_on}
+use Rattle.px_column.specs.Option.{each}
+use Rattle.px_steps.specs.Direct.{key_on}
 use Rattle.px_steps.proofs.Columns.{step_meets, one_item}
 use Rattle.px_steps.proofs.group_step.group_step.Goals as goal
 

@@ -3,7 +3,7 @@ use Rattle.px_frame.specs.Aggregate.{key_column}
 use Rattle.px_frame.specs.Frame.{height_of}
 use Rattle.px_frame.specs.Groups.{groups_by}
 use Rattle.px_plan.specs.View.{tree}
-use Rattle.px_steps.specs.Plain.{columns_on}
+use Rattle.px_steps.specs.Direct.{columns_on}
 use Rattle.px_steps.proofs.Columns.{frame_meets, columns_made, keys_high}
 use Rattle.px_steps.proofs.group_step.grouped_frame.Goals as goal
 

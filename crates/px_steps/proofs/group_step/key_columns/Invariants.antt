@@ -2,8 +2,9 @@ use Rattle.std.proofs.Common.{◌≡◌, ◌<◌, length, map, drop, true}
 use Rattle.std.specs.List.{flat_map, list_all}
 use Rattle.px_plan.specs.View.{tree}
 use Rattle.px_steps.specs.Built.{is_built_key, is_key}
-use Rattle.px_steps.specs.Form.{each, with_front}
-use Rattle.px_steps.specs.Plain.{key_on, key_refusals}
+use Rattle.px_column.specs.Option.{each}
+use Rattle.px_steps.specs.Form.{with_front}
+use Rattle.px_steps.specs.Direct.{key_on, key_refusals}
 use Rattle.px_steps.proofs.group_step.key_columns.Given as goal
 
 abbrev pub invariant-loop-key : goal.invariant-loop-key

@@ -3,8 +3,9 @@ use Rattle.std.specs.List.{flat_map, list_all}
 use Rattle.px_frame.specs.Groups.{rows_of}
 use Rattle.px_plan.specs.View.{tree}
 use Rattle.px_steps.specs.Built.{is_built_agg}
-use Rattle.px_steps.specs.Form.{each, with_front}
-use Rattle.px_steps.specs.Plain.{aggregated_on, agg_refusals}
+use Rattle.px_column.specs.Option.{each}
+use Rattle.px_steps.specs.Form.{with_front}
+use Rattle.px_steps.specs.Direct.{aggregated_on, agg_refusals}
 use Rattle.px_steps.proofs.group_step.push_aggregations.Given as goal
 
 abbrev pub invariant-loop-expr : goal.invariant-loop-expr

@@ -1,7 +1,7 @@
 use Rattle.std.proofs.Common.{◌≡◌, ◌+◌, drop, map, true}
 use Rattle.std.specs.List.{list_all}
 use Rattle.px_steps.specs.Built.{is_built}
-use Rattle.px_steps.specs.Plain.{plain_on, refusals_on}
+use Rattle.px_steps.specs.Direct.{plain_on, refusals_on}
 use Rattle.px_steps.specs.Step.{step_view}
 use Rattle.px_steps.proofs.run_steps.run_plain_steps.Given as goal
 

@@ -4,8 +4,7 @@ use Rattle.px_column.specs.Series.{Series}
 use Rattle.px_column.specs.View.{slot_of}
 use Rattle.px_frame.specs.Cell.{value_of_cell}
 use Rattle.px_frame.specs.Frame.{subframe}
-use Rattle.px_plan.specs.Meaning.{kind_on, value_on}
-use Rattle.px_steps.specs.Plain.{value_on_part}
+use Rattle.px_steps.specs.Direct.{kind_on, value_on, value_on_part}
 use Rattle.px_frame.proofs.Made.{fit_next}
 use Rattle.px_vectors.specs.PlainStep.{tree_of}
 use Rattle.px_vectors.proofs.PlainValues.{kind_on_rows, part_next}

@@ -1,6 +1,6 @@
 use Rattle.std.proofs.Common.{◌∙◌, [], ◌∷◌, Some, ap, sym, map}
 use Rattle.px_plan.specs.Tree.{column}
-use Rattle.px_steps.specs.Plain.{refusals_on, step_on}
+use Rattle.px_steps.specs.Direct.{refusals_on, step_on}
 use Rattle.px_vectors.specs.PlainStep.{step_by, tree_of}
 use Rattle.px_vectors.proofs.PlainAnswer.{makes_valid, some_key, step_answer}
 use Rattle.px_vectors.proofs.plain_step.plain_group_step.Goals as goal

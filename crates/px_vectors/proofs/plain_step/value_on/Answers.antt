@@ -3,7 +3,7 @@ use Rattle.std.specs.Option.{option_map_or}
 use Rattle.px_column.specs.Answer.{AnswersBy}
 use Rattle.px_column.specs.View.{slot_of}
 use Rattle.px_frame.specs.Cell.{value_of_cell}
-use Rattle.px_plan.specs.Meaning.{value_on}
+use Rattle.px_steps.specs.Direct.{value_on}
 use Rattle.px_vectors.specs.PlainStep.{tree_of}
 use Rattle.px_vectors.proofs.PlainValues.{sum_value}
 use Rattle.px_vectors.proofs.plain_step.value_on.Goals as goal

@@ -4,7 +4,8 @@ use Rattle.px_column.specs.Kind.{kind_number}
 use Rattle.px_column.specs.KindView.{kind_of}
 use Rattle.px_column.specs.View.{slots_of}
 use Rattle.px_steps.specs.Document.{place_of}
-use Rattle.px_steps.specs.Form.{each, with_front}
+use Rattle.px_column.specs.Option.{each}
+use Rattle.px_steps.specs.Form.{with_front}
 use Rattle.px_steps.proofs.document.place.+place.Given as goal
 
 -- a type of lists has a larger number than the type of the items

@@ -1,7 +1,7 @@
 use Rattle.std.proofs.Common.{◌≡◌, map, drop}
 use Rattle.serde_json.specs.View.{view}
 use Rattle.px_steps.specs.Document.{step_of}
-use Rattle.px_steps.specs.Form.{each}
+use Rattle.px_column.specs.Option.{each}
 use Rattle.px_steps.specs.Step.{step_view}
 use Rattle.px_steps.specs.Form.{with_front}
 use Rattle.px_steps.proofs.document.step.read_each.Given as goal
