@@ -7,3 +7,4 @@ pub mod PlainValues
 pub mod EachMade
 pub mod PlainNames
 pub mod PlainAnswer
+pub mod PlainWhole

@@ -1,8 +1,6 @@
 -- What a group step by columns answers.
 use Rattle.std.proofs.Common.{◌≡◌, ℕ, ◌==◌, true, false, length, List, [], ◌∷◌, ◌++◌, Option, Some, None, Result, Ok, Err, map, refl, sym, ◌∙◌, ap, subst, option_map, option_and_then, if◌then◌else◌}
 use Rattle.std.specs.List.{flat_map}
-use Rattle.std.specs.Option.{option_map_or}
-use Rattle.std.specs.Result.{IfOk}
 use Rattle.px_column.specs.Answer.{Answers}
 use Rattle.px_column.specs.Series.{Series}
 use Rattle.px_column.specs.declared.error.PxError.{PxError}
@@ -10,7 +8,7 @@ use Rattle.px_column.specs.declared.error.PxError.TheVariants.{ColumnNotFound, D
 use Rattle.px_frame.specs.Frame.{first_repeat, frame_of, height_of, is_even, names_of, unless_repeated}
 use Rattle.px_frame.specs.Parts.{parts_of}
 use Rattle.px_plan.specs.Shape.{name_of}
-use Rattle.px_steps.specs.Direct.{first_of_two, agg_refusals, aggregated_on, columns_on, key_on, key_refusals, refusals_on, repeat_refusal, step_on}
+use Rattle.px_steps.specs.Direct.{first_of_two, agg_refusals, aggregated_on, columns_on, key_on, key_refusals, repeat_refusal, step_on, step_refusals}
 use Rattle.px_plan.specs.Tree.{Tree, column}
 use Rattle.px_column.specs.Option.{each}
 use Rattle.px_steps.specs.Plain.{first_of, key_values, no_key_refusal}
@@ -49,7 +47,7 @@ module _ (columns : List Series) where
   told_repeat n (Err SchemaMismatch) h = cc
   told_repeat n (Err OutOfMemory) h = tt
 
-  told : (repeat : Option (List ℕ)) (r : Result (List Series) PxError) → Answers r (unless_repeated repeat (Ok columns)) → Makes r (Some columns) (first_of_two (repeat_refusal repeat) [])
+  told : (repeat : Option (List ℕ)) (r : Result (List Series) PxError) → Answers r (unless_repeated repeat (Ok columns)) → Makes r (Some columns) (repeat_refusal repeat)
   told None r h = told_frame r h
   told (Some n) r h = told_repeat n r h
 
@@ -60,7 +58,7 @@ plain_columns front (Some values) columns h = (values, refl, cc)
 module _ (frame : List Series) (keys aggs : List Tree) (by columns : List Series) where
   -- a group step that no expression of its refuses
   pub step_answer : (r : Result (List Series) PxError) → Answers r (frame_of columns) → no_key_refusal keys ≡ [] → each (key_on frame) keys ≡ Some by → flat_map (key_refusals frame) keys ≡ []
-      → columns_on frame by aggs ≡ Some columns → flat_map (agg_refusals frame) aggs ≡ [] → Makes r (step_on (group keys aggs None) frame) (refusals_on (group keys aggs None ∷ []) frame)
+      → columns_on frame by aggs ≡ Some columns → flat_map (agg_refusals frame) aggs ≡ [] → Makes r (step_on (group keys aggs None) frame) (step_refusals (group keys aggs None) frame)
   step_answer r answer some k kr made ar =
       let ps = parts_of by (height_of frame) in
       let v = plain_columns (map (key_values ps) by) (each (aggregated_on frame ps) aggs) columns made in
@@ -70,16 +68,11 @@ module _ (frame : List Series) (keys aggs : List Tree) (by columns : List Series
       let framed : frame_of columns ≡ unless_repeated repeat (Ok columns) =
       (λ i. unless_repeated (first_repeat [] (names i)) (if even i then Ok columns else Err ShapeMismatch)) in
       let on : step_on (group keys aggs None) frame ≡ Some columns = ap (λ o. option_and_then (λ b. columns_on frame b aggs) o) k ∙ made in
-      let refused : refusals_on (group keys aggs None ∷ []) frame ≡ first_of_two (repeat_refusal repeat) [] =
-      (λ i. first_of_two (first_of_two (some i) (first_of_two (kr i ++ ar i) (repeat_refusal repeat))) (option_map_or (refusals_on []) (on i) [])) in
+      let refused : step_refusals (group keys aggs None) frame ≡ repeat_refusal repeat =
+      (λ i. first_of_two (some i) (first_of_two (kr i ++ ar i) (repeat_refusal repeat))) in
       let all = told columns repeat r (subst (Answers r) framed answer) in
-      subst (λ o. Makes r o (refusals_on (group keys aggs None ∷ []) frame)) (sym on) (subst (Makes r (Some columns)) (sym refused) all)
+      subst (λ o. Makes r o (step_refusals (group keys aggs None) frame)) (sym on) (subst (Makes r (Some columns)) (sym refused) all)
 
 pub some_key : (keys : List (List ℕ)) → (length keys == 0) ≡ false → no_key_refusal (map column keys) ≡ []
 some_key [] h = cc
 some_key (k ∷ keys) h = refl
-
--- what is made is not refused
-pub makes_valid : {X : Type 0} (r : Result X PxError) (made : Option X) (refusals : List PxError) → Makes r made refusals → IfOk r (λ _. first_of refusals ≡ None)
-makes_valid (Ok x) made refusals h = ap first_of h.1
-makes_valid (Err e) made refusals h = tt

@@ -49,8 +49,9 @@ module _ (p : List ℕ) where
   -- the type on some rows is that on the frame
   pub kind_on_rows : (e : Tree) (frame : List Series) → kind_on e (subframe frame p) ≡ kind_on e frame
   kind_on_rows (column n) frame = kind_of_name n frame
-  kind_on_rows (agg m e) frame = ap (option_and_then (reduced_kind m)) (kind_on_rows e frame)
+  kind_on_rows (agg m e) frame = ap (option_and_then (direct_kind m)) (kind_on_rows e frame)
   kind_on_rows len frame = refl
+  kind_on_rows _ frame = refl
 
 -- one more part's value
 pub part_next : {V : Type 0} (items : V → List ℕ) (f : List ℕ → Slot) (parts : List V) (i : ℕ) (p : V) (whole : List Slot) (values new : List (Option Value)) (v : Option Value)

@@ -9,13 +9,15 @@ ghost use Rattle.px_column.specs.Series.{slot_at};
 ghost use Rattle.px_column.specs.Sum.{sum_kind, summed};
 ghost use Rattle.px_column.specs.View.{slot_of, slots_of};
 ghost use Rattle.px_frame.specs.Cell.{value_of_cell};
+ghost use Rattle.px_frame.specs.External.{alone};
 ghost use Rattle.px_frame.specs.Frame.{are_below, height_of, series_at, slots_at, subframe};
 ghost use Rattle.px_frame.specs.Groups.{first_row};
-ghost use Rattle.px_steps.specs.Direct.{kind_on, value_on, agg_refusals, aggregated_on, columns_on, first_refusal, key_on, key_refusals, refusals_on, step_on, value_on_part};
+ghost use Rattle.px_steps.specs.Direct as direct;
+ghost use Rattle.px_steps.specs.Direct.{kind_on, value_on, agg_refusals, aggregated_on, columns_on, key_on, key_refusals, step_on, value_on_part};
 ghost use Rattle.px_plan.specs.Shape.{name_of};
 ghost use Rattle.px_plan.specs.Tree.{column};
 ghost use Rattle.px_column.specs.Option.{each};
-ghost use Rattle.px_steps.specs.Plain.{key_values};
+ghost use Rattle.px_steps.specs.Plain.{columns_made, key_values, step_refusals};
 ghost use Rattle.px_vectors.specs.PlainStep.{IsPart, Makes, MakesBy, step_by, tree_of};
 
 use crate::plain::plain_parts;
@@ -265,6 +267,21 @@ fn grouped_columns(
     Ok(columns)
 }
 
+fn grouped_frame(
+    alloc: Global,
+    frame: &DataFrame,
+    keys: &[Name],
+    aggs: &[Aggregation],
+) -> Px<DataFrame>
+    ensures { Makes result (step_on (step_by keys.now aggs.now) frame.now) (direct.step_refusals (step_by keys.now aggs.now) frame.now) }
+{
+    if keys.is_empty() {
+        return Err(PxError::ComputeError(ComputeWhy::NoKey));
+    }
+    let by = key_columns(alloc, frame, keys)?;
+    DataFrame::new(alloc, grouped_columns(alloc, frame, &by, aggs)?)
+}
+
 /// For each part of the frame by these columns, the keys and the aggregations over the part's rows. `NoKey`
 /// without a key; then what refuses the keys and the aggregations, each in its order: `ColumnNotFound`,
 /// `ListKey`, `Types`; then `Duplicate` with the first name that stands twice.
@@ -275,13 +292,8 @@ pub fn plain_group_step(
     aggs: &[Aggregation],
 ) -> Px<DataFrame>
     // The frame of the step's definition, or the first of its refusals.
-    ensures answer { Makes result (step_on (step_by keys.now aggs.now) frame.now) (refusals_on (step_by keys.now aggs.now ∷ []) frame.now) }
-    // What is answered is not refused.
-    ensures valid { IfOk result (λ _. first_refusal (step_by keys.now aggs.now ∷ []) frame.now ≡ None) }
+    ensures { Makes result (columns_made (step_by keys.now aggs.now) (alone frame.now)) (step_refusals (step_by keys.now aggs.now) (alone frame.now)) }
 {
-    if keys.is_empty() {
-        return Err(PxError::ComputeError(ComputeWhy::NoKey));
-    }
-    let by = key_columns(alloc, frame, keys)?;
-    DataFrame::new(alloc, grouped_columns(alloc, frame, &by, aggs)?)
+    let _columns = frame.get_columns();
+    grouped_frame(alloc, frame, keys, aggs)
 }

@@ -6,11 +6,12 @@ ghost use Rattle.px_column.specs.Datum.{boolean, integer, text, bytes, list, no_
 ghost use Rattle.px_column.specs.Kind.{lists, int64s};
 ghost use Rattle.px_column.specs.declared.error.PxError.TheVariants.{ColumnNotFound, Duplicate, ComputeError, ShapeMismatch};
 ghost use Rattle.px_column.specs.declared.error.ComputeWhy.TheVariants.{NoKey};
+ghost use Rattle.px_frame.specs.External.{alone};
 ghost use Rattle.px_frame.specs.Parts.{parts_of};
 ghost use Rattle.px_plan.specs.Tree.{column, len};
 ghost use Rattle.px_steps.specs.Document.{document_of};
 ghost use Rattle.px_steps.specs.Label.{line_of, bad_document_line};
-ghost use Rattle.px_steps.specs.Direct.{step_on, first_refusal};
+ghost use Rattle.px_steps.specs.Plain.{columns_made, first_refusal};
 ghost use Rattle.px_steps.specs.Reply.{IsNoDocument, IsRefusal, IsResult};
 ghost use Rattle.px_steps.specs.Step.{group};
 ghost use Rattle.px_steps.specs.Text.{kind_name, quoted, slot_text, text_of};
@@ -30,15 +31,15 @@ pub fn worked_parts()
 
 /// The frames that the step makes which, for each k, sums x and counts the rows.
 pub fn worked_steps()
-    ensures four_rows { step_on sum_and_len four_rows ≡ Some four_grouped }
-    ensures no_row { step_on sum_and_len (keyed [] []) ≡ Some (int64_column (codes "k") [] ∷ int64_column (codes "x") [] ∷ uint32_column (codes "len") [] ∷ []) }
-    ensures null_keys { step_on sum_and_len null_keys ≡ Some (int64_column (codes "k") (None ∷ num 1 ∷ []) ∷ int64_column (codes "x") (num 40 ∷ num 20 ∷ []) ∷ uint32_column (codes "len") (num 2 ∷ num 1 ∷ []) ∷ []) }
+    ensures four_rows { columns_made sum_and_len (alone four_rows) ≡ Some four_grouped }
+    ensures no_row { columns_made sum_and_len (alone (keyed [] [])) ≡ Some (int64_column (codes "k") [] ∷ int64_column (codes "x") [] ∷ uint32_column (codes "len") [] ∷ []) }
+    ensures null_keys { columns_made sum_and_len (alone null_keys) ≡ Some (int64_column (codes "k") (None ∷ num 1 ∷ []) ∷ int64_column (codes "x") (num 40 ∷ num 20 ∷ []) ∷ uint32_column (codes "len") (num 2 ∷ num 1 ∷ []) ∷ []) }
     // A null adds nothing to the sum, and one to the number of rows.
-    ensures null_value { step_on sum_and_len (keyed (num 7 ∷ num 7 ∷ []) (None ∷ num 5 ∷ [])) ≡ Some (int64_column (codes "k") (num 7 ∷ []) ∷ int64_column (codes "x") (num 5 ∷ []) ∷ uint32_column (codes "len") (num 2 ∷ []) ∷ []) }
+    ensures null_value { columns_made sum_and_len (alone (keyed (num 7 ∷ num 7 ∷ []) (None ∷ num 5 ∷ []))) ≡ Some (int64_column (codes "k") (num 7 ∷ []) ∷ int64_column (codes "x") (num 5 ∷ []) ∷ uint32_column (codes "len") (num 2 ∷ []) ∷ []) }
     // Nulls alone have the sum 0.
-    ensures only_nulls { step_on sum_and_len (keyed (num 7 ∷ num 7 ∷ []) (None ∷ None ∷ [])) ≡ Some (int64_column (codes "k") (num 7 ∷ []) ∷ int64_column (codes "x") (num 0 ∷ []) ∷ uint32_column (codes "len") (num 2 ∷ []) ∷ []) }
+    ensures only_nulls { columns_made sum_and_len (alone (keyed (num 7 ∷ num 7 ∷ []) (None ∷ None ∷ []))) ≡ Some (int64_column (codes "k") (num 7 ∷ []) ∷ int64_column (codes "x") (num 0 ∷ []) ∷ uint32_column (codes "len") (num 2 ∷ []) ∷ []) }
     // A sum past the greatest Int64 goes on from the least.
-    ensures wraps { step_on sum_and_len (keyed (num 7 ∷ num 7 ∷ []) (num 9223372036854775807 ∷ num 1 ∷ []))
+    ensures wraps { columns_made sum_and_len (alone (keyed (num 7 ∷ num 7 ∷ []) (num 9223372036854775807 ∷ num 1 ∷ [])))
         ≡ Some (int64_column (codes "k") (num 7 ∷ []) ∷ int64_column (codes "x") (Some (integer (negsuc 9223372036854775807)) ∷ []) ∷ uint32_column (codes "len") (num 2 ∷ []) ∷ []) }
 {}
 
@@ -61,17 +62,17 @@ pub fn worked_texts()
 
 /// Why steps on the frame of four rows are refused.
 pub fn worked_refusals()
-    ensures none { first_refusal (sum_and_len ∷ []) four_rows ≡ None }
-    ensures no_key { first_refusal (group [] (len ∷ []) None ∷ []) four_rows ≡ Some (ComputeError NoKey) }
-    ensures missing { first_refusal (by_k (sum_column (codes "y") ∷ []) ∷ []) four_rows ≡ Some (ColumnNotFound (codes "y")) }
-    ensures repeated { first_refusal (by_k (sum_column (codes "k") ∷ []) ∷ []) four_rows ≡ Some (Duplicate (codes "k")) }
-    ensures two_lengths { first_refusal (by_k (len ∷ len ∷ []) ∷ []) four_rows ≡ Some (Duplicate (codes "len")) }
+    ensures none { first_refusal (sum_and_len) (alone four_rows) ≡ None }
+    ensures no_key { first_refusal (group [] (len ∷ []) None) (alone four_rows) ≡ Some (ComputeError NoKey) }
+    ensures missing { first_refusal (by_k (sum_column (codes "y") ∷ [])) (alone four_rows) ≡ Some (ColumnNotFound (codes "y")) }
+    ensures repeated { first_refusal (by_k (sum_column (codes "k") ∷ [])) (alone four_rows) ≡ Some (Duplicate (codes "k")) }
+    ensures two_lengths { first_refusal (by_k (len ∷ len ∷ [])) (alone four_rows) ≡ Some (Duplicate (codes "len")) }
     // No key, before a missing column.
-    ensures no_key_first { first_refusal (group [] (sum_column (codes "y") ∷ []) None ∷ []) four_rows ≡ Some (ComputeError NoKey) }
+    ensures no_key_first { first_refusal (group [] (sum_column (codes "y") ∷ []) None) (alone four_rows) ≡ Some (ComputeError NoKey) }
     // A missing key, before a missing column of an aggregation.
-    ensures key_first { first_refusal (group (column (codes "z") ∷ []) (sum_column (codes "y") ∷ []) None ∷ []) four_rows ≡ Some (ColumnNotFound (codes "z")) }
+    ensures key_first { first_refusal (group (column (codes "z") ∷ []) (sum_column (codes "y") ∷ []) None) (alone four_rows) ≡ Some (ColumnNotFound (codes "z")) }
     // A missing column, before a name that stands twice.
-    ensures missing_first { first_refusal (by_k (sum_column (codes "k") ∷ sum_column (codes "y") ∷ []) ∷ []) four_rows ≡ Some (ColumnNotFound (codes "y")) }
+    ensures missing_first { first_refusal (by_k (sum_column (codes "k") ∷ sum_column (codes "y") ∷ [])) (alone four_rows) ≡ Some (ColumnNotFound (codes "y")) }
 {}
 
 /// The lines that tell of faults.
