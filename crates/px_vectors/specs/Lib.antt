@@ -1,3 +1,4 @@
 pub mod Worked
 pub mod WorkedDocument
 pub mod PlainStep
+pub mod Examples

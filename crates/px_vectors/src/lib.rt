@@ -1,10 +1,14 @@
 //! Worked examples of what frames, steps and texts mean, and plain programs that do what the definitions say.
 #![tactic(auto)]
 
+mod examples;
 mod plain;
 mod plain_step;
 mod worked;
 
+pub use examples::{
+    fault_examples, group_examples, refusal_examples, select_examples, window_examples,
+};
 pub use plain::plain_parts;
 pub use plain_step::{Aggregation, plain_group_step};
 pub use worked::{
