@@ -7,7 +7,7 @@ use Rattle.px_column.specs.Equality.{slot_eq}
 use Rattle.px_column.specs.Kind.{Kind, uint32s, lists, is_list_kind}
 use Rattle.px_column.specs.Order.{datum_cmp}
 use Rattle.px_column.specs.Series.{Series, slot_at}
-use Rattle.px_column.specs.Sum.{sum_kind, summed, sum_of}
+use Rattle.px_column.specs.Sum.{sum_kind, summed}
 use Rattle.px_column.specs.declared.error.PxError.{PxError}
 use Rattle.px_column.specs.declared.error.PxError.TheVariants.{InvalidOperation}
 use Rattle.px_column.specs.declared.error.InvalidWhy.TheVariants.{ListKey, Types}
@@ -36,6 +36,12 @@ reduced_kind Implode k = Ok (lists k)
 -- the values that are there
 abbrev pub values_of : List Slot → List Datum
 values_of xs = filter_map (λ s. s) xs
+
+-- what f makes of two values, a null being passed over
+abbrev pub better : (Datum → Datum → Datum) → Slot → Slot → Slot
+better f None s = s
+better f s None = s
+better f (Some a) (Some b) = Some (f a b)
 
 -- a slot put last, unless it is there already
 abbrev pub with_slot : List Slot → Slot → List Slot
@@ -70,5 +76,4 @@ reduced_as method s (Ok k) = Ok (record { name = s.name; kind = k; slots = reduc
 reduced_as method s (Err e) = Err e
 
 abbrev pub reduced : GroupByMethod → Series → Result Series PxError
-reduced Sum s = sum_of s
-reduced _ s = Err (InvalidOperation Types)
+reduced method s = reduced_as method s (reduced_kind method s.kind)
