@@ -1,5 +1,5 @@
 -- Reductions: all rows become one value.
-use Rattle.std.specs.Prelude.{ℕ, ◌-◌, pos, true, false, List, [], ◌∷◌, ◌++◌, length, fold, filter_map, count_by, is_some, Result, Ok, Err, Option, Some, None, if◌then◌else◌}
+use Rattle.std.specs.Prelude.{ℕ, ◌-◌, pos, Bool, List, [], ◌∷◌, ◌++◌, length, fold, filter_map, count_by, is_some, Result, Ok, Err, Option, Some, None, if◌then◌else◌}
 use Rattle.std.specs.List.{list_any, reduce}
 use Rattle.std.specs.Ordering.{ord_min, ord_max}
 use Rattle.px_column.specs.Datum.{Datum, integer, list, Slot, slots}
@@ -51,6 +51,10 @@ with_slot seen s = if list_any (slot_eq s) seen then seen else seen ++ s ∷ []
 abbrev pub distinct_slots : List Slot → List Slot
 distinct_slots xs = fold with_slot [] xs
 
+-- the number of rows, or of those that hold a value
+abbrev pub row_count : Bool → List Slot → ℕ
+row_count nulls xs = if nulls then length xs else count_by is_some xs
+
 abbrev pub count_slot : ℕ → Slot
 count_slot n = Some (integer (pos n))
 
@@ -66,8 +70,7 @@ reduced_slot Sum k xs = sum_slot (sum_kind k) xs
 reduced_slot First k xs = slot_at xs 0
 reduced_slot Last k xs = slot_at xs (length xs - 1)
 reduced_slot NUnique k xs = count_slot (length (distinct_slots xs))
-reduced_slot (Count true) k xs = count_slot (length xs)
-reduced_slot (Count false) k xs = count_slot (count_by is_some xs)
+reduced_slot (Count nulls) k xs = count_slot (row_count nulls xs)
 reduced_slot Implode k xs = Some (list (slots xs))
 
 -- one row, the reduction of all rows, where there is a type for it

@@ -2,7 +2,7 @@
 ghost use Rattle.std.specs.Prelude.{◌≡◌, ◌+◌, Ok};
 ghost use Rattle.px_column.specs.Answer.{Answers, AnswersBy};
 ghost use Rattle.px_column.specs.KindView.{kind_of};
-ghost use Rattle.px_column.specs.Reduction.{count_slot, reduced, reduced_kind, reduced_slot, unless_list};
+ghost use Rattle.px_column.specs.Reduction.{count_slot, reduced, reduced_kind, reduced_slot, row_count, unless_list};
 ghost use Rattle.px_column.specs.View.{slot_of};
 
 use crate::column::Column;
@@ -58,8 +58,19 @@ fn count(rows: u32) -> Option<Value>
 }
 
 impl Column {
-    /// What all rows become, where that is of the type `dtype`.
+    /// The number of rows, or of those that hold a value.
     #[tactic(auto, using(crate::proofs::Counting::present_count))]
+    fn row_count(&self, include_nulls: bool) -> u32
+        ensures { result ≡ row_count include_nulls self.now.slots }
+    {
+        if include_nulls {
+            self.len()
+        } else {
+            self.len() - self.null_count()
+        }
+    }
+
+    /// What all rows become, where that is of the type `dtype`.
     fn reduced(&self, alloc: Global, method: GroupByMethod, dtype: &DataType) -> Px<Option<Value>>
         requires { reduced_kind method self.now.kind ≡ Ok (kind_of dtype.now) }
         ensures { AnswersBy slot_of result (Ok (reduced_slot method self.now.kind self.now.slots)) }
@@ -71,12 +82,7 @@ impl Column {
             GroupByMethod::First => copy_slot(alloc, self.slot(0)),
             GroupByMethod::Last => copy_slot(alloc, self.slot(self.len().saturating_sub(1))),
             GroupByMethod::NUnique => Ok(count(self.distinct_count(alloc)?)),
-            GroupByMethod::Count {
-                include_nulls: true,
-            } => Ok(count(self.len())),
-            GroupByMethod::Count {
-                include_nulls: false,
-            } => { Ok(count(self.len() - self.null_count())) }
+            GroupByMethod::Count { include_nulls } => Ok(count(self.row_count(include_nulls))),
             GroupByMethod::Implode => Ok(Some(Value::List(self.to_values(alloc)?))),
         }
     }
