@@ -6,7 +6,7 @@ use Rattle.px_column.specs.Kind.{Kind, slot_fits, slots_fit}
 use Rattle.px_column.specs.Series.{slot_at, IsColumn}
 use Rattle.px_column.specs.Column.{taken_at}
 
-both : (a b : Bool) → (a && b) ≡ true → (a ≡ true) × (b ≡ true)
+pub both : (a b : Bool) → (a && b) ≡ true → (a ≡ true) × (b ≡ true)
 both true b h = (refl, h)
 both false b h = cc
 

@@ -1,6 +1,12 @@
 pub mod Fitting
 pub mod Lengths
+pub mod Taking
 pub mod Summing
+pub mod Extremes
+pub mod Distinct
+pub mod Wrapping
+pub mod Counting
+pub mod Reducing
 pub mod WrapRows
 pub mod OperatorRows
 pub mod CastRows

@@ -1,10 +1,8 @@
 -- Each row of the table computes.
 use Rattle.std.proofs.Common.{refl}
-use Rattle.std.specs.Int.{int_wrap}
 use Rattle.px_column.specs.ReductionRows.{ReductionRows}
 
 pub reduction_rows : ReductionRows
-unfolding int_wrap
 reduction_rows = record {
   min = refl;
   max = refl;

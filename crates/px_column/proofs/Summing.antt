@@ -1,9 +1,10 @@
 -- Running sums stay within bounds that 128 bits hold.
-use Rattle.std.proofs.Common.{◌≡◌, ℕ, zero, suc, ◌+◌, ◌^◌, ◌<◌, ◌≤◌, ℤ, pos, negsuc, ◌+ℤ◌, true, List, [], ◌∷◌, ◌++◌, Some, None, map, fold, take, length, refl, ◌∙◌, ap, arith, add-one}
+use Rattle.std.proofs.Common.{◌≡◌, ℕ, ◌+◌, ◌^◌, ◌<◌, ◌≤◌, ℤ, pos, negsuc, ◌+ℤ◌, true, List, [], ◌∷◌, ◌++◌, Some, None, map, fold, take, length, refl, ◌∙◌, ap, arith}
 use Rattle.std.proofs.lemmas.Bool.Decides.{nat_tests}
 use Rattle.std.proofs.lemmas.Int.{ints}
 use Rattle.px_column.specs.Datum.{boolean, integer, text, bytes, list, Slot}
 use Rattle.px_column.specs.Kind.{Kind, booleans, int8s, int16s, int32s, int64s, uint8s, uint16s, uint32s, uint64s, strings, binaries, nulls, lists, slot_fits, is_signed, is_unsigned}
+use Rattle.px_column.proofs.Taking.{take_row}
 use Rattle.px_column.specs.Series.{slot_at}
 use Rattle.px_column.specs.Sum.{number_of, total, IsWithin}
 use Rattle.std.proofs.lemmas.List.{map_push}
@@ -44,14 +45,9 @@ number_within binaries (Some (integer z)) h = cc
 number_within nulls (Some (integer z)) h = cc
 number_within (lists k) (Some (integer z)) h = cc
 
-take_suc : (xs : List Slot) (i : ℕ) → i < length xs → take (suc i) xs ≡ take i xs ++ slot_at xs i ∷ []
-take_suc [] i h = absurd (omega (arith, h))
-take_suc (x ∷ xs) zero h = refl
-take_suc (x ∷ xs) (suc i) h = ap (λ ys. x ∷ ys) (take_suc xs i (omega (arith, h)))
-
 total_push : (xs : List Slot) (s : Slot) → total (xs ++ s ∷ []) ≡ total xs +ℤ number_of s
 total_push xs s = ap (fold ◌+ℤ◌ (pos 0)) (map_push number_of xs s) ∙ fold-append ◌+ℤ◌ (pos 0) (map number_of xs) (number_of s ∷ [])
 
 -- the sum of one more row
 pub total_more : (xs : List Slot) (i : ℕ) → i < length xs → total (take (i + 1) xs) ≡ total (take i xs) +ℤ number_of (slot_at xs i)
-total_more xs i h = ap (λ n. total (take n xs)) (add-one i) ∙ ap total (take_suc xs i h) ∙ total_push (take i xs) (slot_at xs i)
+total_more xs i h = ap total (take_row xs i h) ∙ total_push (take i xs) (slot_at xs i)

@@ -1,5 +1,5 @@
 -- Reductions: all rows become one value.
-use Rattle.std.specs.Prelude.{ℕ, ◌-◌, pos, true, false, List, [], ◌∷◌, ◌++◌, length, fold, filter_map, count_by, is_some, Result, Ok, Err, Option, Some, None, if◌then◌else◌}
+use Rattle.std.specs.Prelude.{ℕ, ◌-◌, pos, Bool, List, [], ◌∷◌, ◌++◌, length, fold, filter_map, count_by, is_some, Result, Ok, Err, Option, Some, None, if◌then◌else◌}
 use Rattle.std.specs.List.{list_any, reduce}
 use Rattle.std.specs.Ordering.{ord_min, ord_max}
 use Rattle.px_column.specs.Datum.{Datum, integer, list, Slot, slots}
@@ -7,7 +7,7 @@ use Rattle.px_column.specs.Equality.{slot_eq}
 use Rattle.px_column.specs.Kind.{Kind, uint32s, lists, is_list_kind}
 use Rattle.px_column.specs.Order.{datum_cmp}
 use Rattle.px_column.specs.Series.{Series, slot_at}
-use Rattle.px_column.specs.Sum.{sum_kind, summed, sum_of}
+use Rattle.px_column.specs.Sum.{sum_kind, summed}
 use Rattle.px_column.specs.declared.error.PxError.{PxError}
 use Rattle.px_column.specs.declared.error.PxError.TheVariants.{InvalidOperation}
 use Rattle.px_column.specs.declared.error.InvalidWhy.TheVariants.{ListKey, Types}
@@ -37,6 +37,12 @@ reduced_kind Implode k = Ok (lists k)
 abbrev pub values_of : List Slot → List Datum
 values_of xs = filter_map (λ s. s) xs
 
+-- what f makes of two values, a null being passed over
+abbrev pub better : (Datum → Datum → Datum) → Slot → Slot → Slot
+better f None s = s
+better f s None = s
+better f (Some a) (Some b) = Some (f a b)
+
 -- a slot put last, unless it is there already
 abbrev pub with_slot : List Slot → Slot → List Slot
 with_slot seen s = if list_any (slot_eq s) seen then seen else seen ++ s ∷ []
@@ -44,6 +50,10 @@ with_slot seen s = if list_any (slot_eq s) seen then seen else seen ++ s ∷ []
 -- each slot once, a null being the same as a null
 abbrev pub distinct_slots : List Slot → List Slot
 distinct_slots xs = fold with_slot [] xs
+
+-- the number of rows, or of those that hold a value
+abbrev pub row_count : Bool → List Slot → ℕ
+row_count nulls xs = if nulls then length xs else count_by is_some xs
 
 abbrev pub count_slot : ℕ → Slot
 count_slot n = Some (integer (pos n))
@@ -60,8 +70,7 @@ reduced_slot Sum k xs = sum_slot (sum_kind k) xs
 reduced_slot First k xs = slot_at xs 0
 reduced_slot Last k xs = slot_at xs (length xs - 1)
 reduced_slot NUnique k xs = count_slot (length (distinct_slots xs))
-reduced_slot (Count true) k xs = count_slot (length xs)
-reduced_slot (Count false) k xs = count_slot (count_by is_some xs)
+reduced_slot (Count nulls) k xs = count_slot (row_count nulls xs)
 reduced_slot Implode k xs = Some (list (slots xs))
 
 -- one row, the reduction of all rows, where there is a type for it
@@ -70,5 +79,4 @@ reduced_as method s (Ok k) = Ok (record { name = s.name; kind = k; slots = reduc
 reduced_as method s (Err e) = Err e
 
 abbrev pub reduced : GroupByMethod → Series → Result Series PxError
-reduced Sum s = sum_of s
-reduced _ s = Err (InvalidOperation Types)
+reduced method s = reduced_as method s (reduced_kind method s.kind)

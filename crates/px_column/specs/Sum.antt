@@ -1,12 +1,8 @@
 -- Sums: of the present values, modulo the result's type.
-use Rattle.std.specs.Prelude.{ℕ, ◌^◌, ◌*◌, ℤ, pos, ◌+ℤ◌, ◌≤ℤ◌, neg_ℤ, Bool, true, false, List, [], ◌∷◌, Option, Some, None, Result, Ok, Err, fold, map, unsigned_abs}
-use Rattle.std.specs.Int.{w32, w64, int_wrap, int_rem_euclid}
+use Rattle.std.specs.Prelude.{ℕ, ◌^◌, ◌*◌, ℤ, pos, ◌+ℤ◌, ◌≤ℤ◌, neg_ℤ, Bool, true, false, List, Option, Some, None, fold, map}
 use Rattle.px_column.specs.Datum.{boolean, integer, Slot}
 use Rattle.px_column.specs.Kind.{Kind, booleans, int8s, int16s, int32s, int64s, uint8s, uint16s, uint32s, uint64s}
-use Rattle.px_column.specs.Series.{Series}
-use Rattle.px_column.specs.declared.error.PxError.{PxError}
-use Rattle.px_column.specs.declared.error.PxError.TheVariants.{InvalidOperation}
-use Rattle.px_column.specs.declared.error.InvalidWhy.TheVariants.{Types}
+pub use Rattle.px_column.specs.Wrap.{wrapped_in as wrapped}
 
 -- what a place adds to a sum: its number, 1 for true, else 0
 abbrev pub number_of : Slot → ℤ
@@ -43,22 +39,6 @@ pub record IsWithin (n : ℕ) (z : ℤ) : Type 0 where
   pub low : neg_ℤ (pos (n * 2 ^ 64)) ≤ℤ z
   pub high : z ≤ℤ pos (n * 2 ^ 64)
 
--- what is left of a number in the bits of a sum's type
-abbrev pub wrapped : Kind → ℤ → ℤ
-wrapped int32s z = int_wrap w32 z
-wrapped int64s z = int_wrap w64 z
-wrapped uint32s z = pos (unsigned_abs (int_rem_euclid z (pos (2 ^ 32))))
-wrapped uint64s z = pos (unsigned_abs (int_rem_euclid z (pos (2 ^ 64))))
-wrapped _ z = z
-
 -- the sum of some places, in the type k of sums
 abbrev pub summed : Kind → List Slot → Slot
 summed k xs = Some (integer (wrapped k (total xs)))
-
-abbrev pub sum_by_kind : Option Kind → Series → Result Series PxError
-sum_by_kind None s = Err (InvalidOperation Types)
-sum_by_kind (Some k) s = Ok (record { name = s.name; kind = k; slots = summed k s.slots ∷ [] })
-
--- one row: the sum of all rows
-abbrev pub sum_of : Series → Result Series PxError
-sum_of s = sum_by_kind (sum_kind s.kind) s

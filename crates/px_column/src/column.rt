@@ -5,13 +5,13 @@ ghost use Rattle.px_column.specs.Column.{made, taken, taken_at, is_within, all_w
 ghost use Rattle.px_column.specs.Kind.{slots_fit, slot_fits};
 ghost use Rattle.px_column.specs.KindView.{kind_of};
 ghost use Rattle.px_column.specs.LentView.{slot_of_ref};
-ghost use Rattle.px_column.specs.Series.{slot_at};
+ghost use Rattle.px_column.specs.Series.{IsColumn, slot_at};
 ghost use Rattle.px_column.specs.View.{slot_of, slots_of};
 
 use crate::data_type::DataType;
 use crate::error::{InvalidWhy, Px, PxError};
 use crate::name::Name;
-use crate::value::Value;
+use crate::value::{Value, Values};
 use crate::value_ref::{ValueRef, copy_slot, lend, slot_fits};
 use std::alloc::Global;
 use std::marker::Model;
@@ -146,6 +146,23 @@ impl Column {
         Column { name, dtype, rows }
     }
 
+    /// The column of other rows under this one's name. They make a column, as the rows of this one do.
+    pub(crate) fn with_rows(
+        &self,
+        alloc: Global,
+        dtype: DataType,
+        rows: Vec<Option<Value>>,
+    ) -> Px<Column>
+        requires { IsColumn self.now.kind self.now.slots → IsColumn (kind_of dtype) (slots_of rows.items) }
+        ensures { Answers result (Ok (record { name = self.now.name; kind = kind_of dtype; slots = slots_of rows.items })) }
+    {
+        Ok(Column {
+            name: self.name.try_clone(alloc)?,
+            dtype,
+            rows,
+        })
+    }
+
     /// The number of rows.
     pub fn len(&self) -> u32
         ensures { result ≡ length self.now.slots }
@@ -195,6 +212,13 @@ impl Column {
         ensures fits { slot_fits self.now.kind (slot_of_ref result) ≡ true }
     {
         slot(&self.rows, row)
+    }
+
+    /// The rows, copied, as the items of a list.
+    pub(crate) fn to_values(&self, alloc: Global) -> Px<Values>
+        ensures { Answers result (Ok self.now.slots) }
+    {
+        Ok(Values::from_vec(copy_slots(alloc, &self.rows)?))
     }
 
     /// An equal column.

@@ -1,3 +1,6 @@
 //! The kernels: what is computed from whole columns.
 
+mod distinct;
+mod extremes;
+mod reduce;
 pub mod sum;

@@ -10,6 +10,7 @@ pub mod kernels;
 mod method;
 mod name;
 mod operator;
+mod order;
 mod repeat;
 mod row_key;
 pub mod rows;

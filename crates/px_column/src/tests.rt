@@ -20,22 +20,49 @@ fn integer(slot: Option<ValueRef<'_>>) -> Option<i128> {
     }
 }
 
-fn counted_sum<L: Ledger>(alloc: Global, column: &Column, blank: Blank) -> Px<Column>
+fn counted<L: Ledger>(
+    alloc: Global,
+    column: &Column,
+    method: GroupByMethod,
+    blank: Blank,
+) -> Px<Column>
     requires name { blank.name ≡ L.name }
     requires parts { blank.parts ≡ L.parts }
     requires some { 0 < blank.parts }
 {
     let mut kernels = Steps::<L>::new(blank);
-    column.reduce(alloc, GroupByMethod::Sum, &mut kernels)
+    column.reduce(alloc, method, &mut kernels)
 }
 
-fn sum(alloc: Global, column: &Column) -> Px<Option<i128>> {
-    let total = counted_sum::<Brand>(alloc, column, Blank::new(1))?;
-    if total.len() == 1 {
-        Ok(integer(total.get(0)))
-    } else {
-        Err(PxError::ShapeMismatch)
+/// The one row of a reduction.
+fn reduced(alloc: Global, column: &Column, method: GroupByMethod) -> Px<Option<Value>> {
+    let row = counted::<Brand>(alloc, column, method, Blank::new(1))?;
+    if row.len() != 1 {
+        return Err(PxError::ShapeMismatch);
     }
+    match row.get(0) {
+        None => Ok(None),
+        Some(value) => Ok(Some(value.to_value(alloc)?)),
+    }
+}
+
+/// The number that is the one row of a reduction.
+fn number(alloc: Global, column: &Column, method: GroupByMethod) -> Px<Option<i128>> {
+    match reduced(alloc, column, method)? {
+        Some(Value::Int(z)) => Ok(Some(z)),
+        _ => Ok(None),
+    }
+}
+
+/// The places of the list that is the one row of an implosion.
+fn imploded(alloc: Global, column: &Column) -> Px<Vec<Option<i128>>> {
+    let mut places = Vec::new(alloc);
+    if let Some(Value::List(items)) = reduced(alloc, column, GroupByMethod::Implode)? {
+        for i in 0..items.len() {
+            places.push(integer(items.get(i)))?;
+        }
+    }
+    Ok(places)
 }
 
 #[test]
@@ -77,9 +104,12 @@ fn rows_are_taken_in_the_order_asked(rt: HostRuntime) -> Result<(), Fail> {
 fn sums_wrap_in_the_type_of_the_result(rt: HostRuntime) -> Result<(), Fail> {
     let alloc = rt.alloc();
     let large = pair(alloc, DataType::Int64, Some(i64::MAX as i128), Some(1))?;
-    assert_eq!(rt; sum(alloc, &large)?, Some(i64::MIN as i128));
+    assert_eq!(rt;
+        number(alloc, &large, GroupByMethod::Sum)?,
+        Some(i64::MIN as i128)
+    );
     let small = pair(alloc, DataType::UInt8, Some(200), Some(100))?;
-    assert_eq!(rt; sum(alloc, &small)?, Some(300));
+    assert_eq!(rt; number(alloc, &small, GroupByMethod::Sum)?, Some(300));
     Ok(())
 }
 
@@ -122,5 +152,63 @@ fn one_value_is_repeated(rt: HostRuntime) -> Result<(), Fail> {
     assert_eq!(rt; fives(alloc)?.total_at(&[0, 1, 2]), 15);
     assert_eq!(rt; two_nulls(alloc)?.null_count(), 2);
     assert_eq!(rt; middle_twice(alloc)?.total_at(&[0, 1]), 10);
+    Ok(())
+}
+
+/// The column null 2 1.
+fn null_two_one(alloc: Global) -> Px<Column> {
+    let name = Name::new(alloc, "x")?;
+    let rows = Vec::from_array(alloc, [None, Some(Value::Int(2)), Some(Value::Int(1))])?;
+    Column::from_values(alloc, name, DataType::Int64, rows)
+}
+
+#[test]
+fn rows_become_one(rt: HostRuntime) -> Result<(), Fail> {
+    let alloc = rt.alloc();
+    let column = null_two_one(alloc)?;
+    assert_eq!(rt; number(alloc, &column, GroupByMethod::Min)?, Some(1));
+    assert_eq!(rt; number(alloc, &column, GroupByMethod::Max)?, Some(2));
+    assert_eq!(rt; number(alloc, &column, GroupByMethod::Sum)?, Some(3));
+    assert_eq!(rt; number(alloc, &column, GroupByMethod::First)?, None);
+    assert_eq!(rt; number(alloc, &column, GroupByMethod::Last)?, Some(1));
+    assert_eq!(rt; number(alloc, &column, GroupByMethod::NUnique)?, Some(3));
+    Ok(())
+}
+
+#[test]
+fn rows_are_counted_with_nulls_and_without(rt: HostRuntime) -> Result<(), Fail> {
+    let alloc = rt.alloc();
+    let column = null_two_one(alloc)?;
+    let all = GroupByMethod::Count {
+        include_nulls: true,
+    };
+    let present = GroupByMethod::Count {
+        include_nulls: false,
+    };
+    assert_eq!(rt; number(alloc, &column, all)?, Some(3));
+    assert_eq!(rt; number(alloc, &column, present)?, Some(2));
+    Ok(())
+}
+
+#[test]
+fn rows_become_a_list(rt: HostRuntime) -> Result<(), Fail> {
+    let alloc = rt.alloc();
+    let items = imploded(alloc, &null_two_one(alloc)?)?;
+    assert_eq!(rt; items.as_slice(), [None, Some(2), Some(1)].as_slice());
+    Ok(())
+}
+
+#[test]
+fn no_row_becomes_one(rt: HostRuntime) -> Result<(), Fail> {
+    let alloc = rt.alloc();
+    let column = Column::full_null(alloc, Name::new(alloc, "x")?, 0, DataType::Int64)?;
+    let all = GroupByMethod::Count {
+        include_nulls: true,
+    };
+    assert_eq!(rt; number(alloc, &column, GroupByMethod::Min)?, None);
+    assert_eq!(rt; number(alloc, &column, GroupByMethod::Sum)?, Some(0));
+    assert_eq!(rt; number(alloc, &column, GroupByMethod::First)?, None);
+    assert_eq!(rt; number(alloc, &column, all)?, Some(0));
+    assert!(rt; imploded(alloc, &column)?.is_empty());
     Ok(())
 }

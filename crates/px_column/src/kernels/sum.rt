@@ -1,25 +1,18 @@
 //! Sums of the present values of a column, as polars' `sum` gives them, wrapping in the result's type.
-ghost use Rattle.std.specs.Prelude.{◌≡◌, ◌+◌, ◌<◌, ◌^◌, pos, ◌+ℤ◌, Ok, true, length, map, option_map, unsigned_abs};
-ghost use Rattle.std.specs.Int.{int_rem_euclid};
-ghost use Rattle.px_column.specs.Answer.{Answers};
+ghost use Rattle.std.specs.Prelude.{◌≡◌, ◌+◌, ◌<◌, ◌^◌, ◌+ℤ◌, Some, true, length, map, option_map};
 ghost use Rattle.px_column.specs.Datum.{integer};
 ghost use Rattle.px_column.specs.Kind.{fits};
 ghost use Rattle.px_column.specs.KindView.{kind_of};
 ghost use Rattle.px_column.specs.LentView.{slot_of_ref};
 ghost use Rattle.px_column.specs.Series.{slot_at};
-ghost use Rattle.px_column.specs.Reduction.{reduced};
-ghost use Rattle.px_column.specs.Sum.{number_of, total, sum_kind, sum_of, is_sum_kind, wrapped, IsWithin};
+ghost use Rattle.px_column.specs.Sum.{number_of, total, sum_kind, is_sum_kind, IsWithin};
+ghost use Rattle.px_column.specs.Wrap.{low_bits, wrapped_in};
 ghost use Rattle.px_column.specs.View.{datum_of};
 
 use crate::column::Column;
 use crate::data_type::DataType;
-use crate::error::{InvalidWhy, Px, PxError};
-use crate::method::GroupByMethod;
-use crate::steps::Steps;
 use crate::value::Value;
 use crate::value_ref::ValueRef;
-use std::alloc::Global;
-use std::sync::ledger::Ledger;
 
 impl DataType {
     /// The type of a sum of such values, `None` where they cannot be summed.
@@ -43,7 +36,7 @@ impl DataType {
 /// What is left of a whole sum in the bits of a sum's type.
 pub fn wrapped_sum(dtype: &DataType, sum: i128) -> Value
     requires { is_sum_kind (kind_of dtype.now) ≡ true }
-    ensures value { datum_of result ≡ integer (wrapped (kind_of dtype.now) sum) }
+    ensures value { datum_of result ≡ integer (wrapped_in (kind_of dtype.now) sum) }
     ensures fits { fits (kind_of dtype.now) (datum_of result) ≡ true }
 {
     match dtype {
@@ -56,13 +49,13 @@ pub fn wrapped_sum(dtype: &DataType, sum: i128) -> Value
 }
 
 fn low_u32(z: i128) -> u32
-    ensures { result ≡ unsigned_abs (int_rem_euclid z (pos (2 ^ 32))) }
+    ensures { result ≡ low_bits 32 z }
 {
     z.rem_euclid(1 << 32) as u32
 }
 
 fn low_u64(z: i128) -> u64
-    ensures { result ≡ unsigned_abs (int_rem_euclid z (pos (2 ^ 64))) }
+    ensures { result ≡ low_bits 64 z }
 {
     z.rem_euclid(1 << 64) as u64
 }
@@ -114,31 +107,11 @@ impl Column {
         sum
     }
 
-    /// One row: the reduction of all rows. `Types` where such values cannot be summed.
-    pub fn reduce<L: Ledger>(
-        &self,
-        alloc: Global,
-        method: GroupByMethod,
-        kernels: &mut Steps<L>,
-    ) -> Px<Column>
-        ensures answer { Answers result (reduced method self.now) }
-        ensures ticks { kernels.new ≡ kernels.old + 1 }
+    /// The sum of the present values in its type, which is there for the values of this column.
+    pub(crate) fn sum(&self, dtype: &DataType) -> Value
+        requires { sum_kind self.now.kind ≡ Some (kind_of dtype.now) }
+        ensures { datum_of result ≡ integer (wrapped_in (kind_of dtype.now) (total self.now.slots)) }
     {
-        kernels.tick();
-        match method {
-            GroupByMethod::Sum => self.sum(alloc),
-            _ => Err(PxError::InvalidOperation(InvalidWhy::Types)),
-        }
-    }
-
-    fn sum(&self, alloc: Global) -> Px<Column>
-        ensures { Answers result (sum_of self.now) }
-    {
-        let Some(dtype) = self.dtype().sum_type() else {
-            return Err(PxError::InvalidOperation(InvalidWhy::Types));
-        };
-        let mut rows = Vec::with_capacity(alloc, 1)?;
-        rows.push(Some(wrapped_sum(&dtype, self.total())))?;
-        Column::from_values(alloc, self.name().try_clone(alloc)?, dtype, rows)
+        wrapped_sum(dtype, self.total())
     }
 }

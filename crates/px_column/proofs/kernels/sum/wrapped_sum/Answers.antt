@@ -1,12 +1,11 @@
 use Rattle.std.proofs.Common.{◌≡◌, ◌∙◌, ap, arith, rules, w32, w64}
 use Rattle.std.specs.Prelude.{FitsSigned}
-use Rattle.std.specs.Int.{w128, int_wrap, cast_signed, cast_unsigned}
+use Rattle.std.specs.Int.{w128, cast_signed, cast_unsigned}
 use Rattle.std.proofs.lemmas.Int.{ints}
 use Rattle.px_column.specs.Datum.{integer}
 use Rattle.px_column.proofs.kernels.sum.wrapped_sum.Goals as goal
 
 pub returns-in-Int32-clause-value : goal.returns-in-Int32-clause-value
-unfolding int_wrap
 returns-in-Int32-clause-value c =
     let fits : FitsSigned w32 c.cast_signed.result = search rules in
     let whole : FitsSigned w128 c.args.sum = c.ranges.sum in
@@ -14,7 +13,6 @@ returns-in-Int32-clause-value c =
     rw c.in-Int32.is (ap integer (omega (arith, ints) ∙ c.cast_signed.ensures ∙ ap (cast_signed w32) (rw same at c.low_u32.ensures)))
 
 pub returns-in-Int64-clause-value : goal.returns-in-Int64-clause-value
-unfolding int_wrap
 returns-in-Int64-clause-value c =
     let fits : FitsSigned w64 c.cast_signed-in-Int64.result = search rules in
     let whole : FitsSigned w128 c.args.sum = c.ranges.sum in

@@ -1,0 +1,42 @@
+-- Rows of one column are the same where their slots are.
+use Rattle.std.proofs.Common.{◌≡◌, ◌∙◌, ℕ, ◌+◌, ◌≤◌, ◌<◌, ◌&&◌, ◌||◌, Bool, true, false, cond, List, [], ◌∷◌, ◌++◌, Some, None, length, map, take, refl, ap, sym}
+use Rattle.std.specs.List.{list_any}
+use Rattle.std.proofs.lemmas.List.{map_push}
+use Rattle.px_column.specs.Datum.{Slot}
+use Rattle.px_column.specs.Equality.{datum_eq, slot_eq, row_eq}
+use Rattle.px_column.specs.Reduction.{with_slot, distinct_slots}
+use Rattle.px_column.specs.Series.{slot_at}
+use Rattle.px_column.proofs.Taking.{fold_row}
+
+-- the row of one column
+abbrev pub row_of : Slot → List Slot
+row_of s = s ∷ []
+
+and_true : (b : Bool) → (b && true) ≡ b
+and_true true = refl
+and_true false = refl
+
+row_eq_one : (a b : Slot) → row_eq (row_of a) (row_of b) ≡ slot_eq a b
+row_eq_one None None = refl
+row_eq_one None (Some d) = refl
+row_eq_one (Some c) None = refl
+row_eq_one (Some c) (Some d) = and_true (datum_eq c d)
+
+any_row : (s : Slot) (seen : List Slot) → list_any (row_eq (row_of s)) (map row_of seen) ≡ list_any (slot_eq s) seen
+any_row s [] = refl
+any_row s (x ∷ xs) = λ i. row_eq_one s x i || any_row s xs i
+
+either : (b : Bool) (seen : List Slot) (s : Slot) → cond b (map row_of seen) (map row_of seen ++ row_of s ∷ []) ≡ map row_of (cond b seen (seen ++ s ∷ []))
+either true seen s = refl
+either false seen s = sym (map_push row_of seen s)
+
+with_row : (seen : List Slot) (s : Slot) → cond (list_any (row_eq (row_of s)) (map row_of seen)) (map row_of seen) (map row_of seen ++ row_of s ∷ []) ≡ map row_of (with_slot seen s)
+with_row seen s =
+    ap (λ b. cond b (map row_of seen) (map row_of seen ++ row_of s ∷ [])) (any_row s seen) ∙ either (list_any (slot_eq s) seen) seen s
+
+-- the rows seen, after one more
+pub distinct_row : (xs : List Slot) (i : ℕ) (keys : List (List Slot)) (key : List Slot) → i < length xs → keys ≡ map row_of (distinct_slots (take i xs)) → key ≡ row_of (slot_at xs i)
+    → cond (list_any (row_eq key) keys) keys (keys ++ key ∷ []) ≡ map row_of (distinct_slots (take (i + 1) xs))
+distinct_row xs i keys key h e k =
+    (λ j. cond (list_any (row_eq (k j)) (e j)) (e j) (e j ++ k j ∷ []))
+    ∙ with_row (distinct_slots (take i xs)) (slot_at xs i) ∙ ap (map row_of) (sym (fold_row with_slot [] xs i h))

@@ -1,0 +1,56 @@
+//! The least and the greatest of the present values of a column.
+ghost use Rattle.std.specs.Prelude.{◌≡◌};
+ghost use Rattle.std.specs.List.{reduce};
+ghost use Rattle.std.specs.Ordering.{ord_min, ord_max};
+ghost use Rattle.px_column.specs.LentView.{slot_of_ref};
+ghost use Rattle.px_column.specs.Order.{datum_cmp};
+ghost use Rattle.px_column.specs.Reduction.{better, values_of};
+
+use crate::column::Column;
+use crate::value_ref::ValueRef;
+
+/// The lesser of two values, which is the first one where neither is less; a null is passed over.
+fn lesser<'a>(best: Option<ValueRef<'a>>, other: Option<ValueRef<'a>>) -> Option<ValueRef<'a>>
+    ensures { slot_of_ref result ≡ better (ord_min datum_cmp) (slot_of_ref best.entry) (slot_of_ref other.entry) }
+{
+    match (best, other) {
+        (Some(x), Some(y)) => Some(if y.compare(x).is_lt() { y } else { x }),
+        (Some(x), None) => Some(x),
+        (None, other) => other,
+    }
+}
+
+/// The greater of two values, which is the second one where neither is greater; a null is passed over.
+fn greater<'a>(best: Option<ValueRef<'a>>, other: Option<ValueRef<'a>>) -> Option<ValueRef<'a>>
+    ensures { slot_of_ref result ≡ better (ord_max datum_cmp) (slot_of_ref best.entry) (slot_of_ref other.entry) }
+{
+    match (best, other) {
+        (Some(x), Some(y)) => Some(if y.compare(x).is_lt() { x } else { y }),
+        (Some(x), None) => Some(x),
+        (None, other) => other,
+    }
+}
+
+impl Column {
+    /// The least of the present values.
+    pub(crate) fn least(&self) -> Option<ValueRef<'_>>
+        ensures { slot_of_ref result ≡ reduce (ord_min datum_cmp) (values_of self.now.slots) }
+    {
+        let mut best = None;
+        for row in 0..self.len() {
+            best = lesser(best, self.slot(row));
+        }
+        best
+    }
+
+    /// The greatest of the present values.
+    pub(crate) fn greatest(&self) -> Option<ValueRef<'_>>
+        ensures { slot_of_ref result ≡ reduce (ord_max datum_cmp) (values_of self.now.slots) }
+    {
+        let mut best = None;
+        for row in 0..self.len() {
+            best = greater(best, self.slot(row));
+        }
+        best
+    }
+}
