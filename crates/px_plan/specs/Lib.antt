@@ -2,3 +2,5 @@ pub mod Tree
 pub mod View
 pub mod Shape
 pub mod Typing
+pub mod Facts
+pub mod FactsView

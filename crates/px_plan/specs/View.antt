@@ -11,6 +11,7 @@ use Rattle.px_plan.specs.Tree as t
 use Rattle.px_plan.specs.Tree.{Tree, Trees, Order, trees_of, no_trees, one_tree, no_order, ordered, Literal, single, range, series}
 use Rattle.px_plan.specs.declared.expr.Expr.{Expr, fold-Expr}
 use Rattle.px_plan.specs.declared.expr.Exprs.{Exprs, fold-Exprs}
+use Rattle.px_plan.specs.declared.expr.AggExpr.{AggExpr, fold-AggExpr}
 use Rattle.px_plan.specs.declared.expr.AggExpr.TheOpen.{AggExpr-F, Expr-F, Exprs-F}
 use Rattle.px_plan.specs.declared.function.FunctionExpr.TheVariants as function
 use Rattle.px_plan.specs.declared.literal.LiteralValue.{LiteralValue}
@@ -79,3 +80,12 @@ tree = fold-Expr Tree Tree Trees agg_step tree_step trees_step
 
 abbrev pub trees : Exprs → Trees
 trees = fold-Exprs Tree Tree Trees agg_step tree_step trees_step
+
+-- a reduction as its tree
+abbrev pub agg_tree : AggExpr → Tree
+agg_tree = fold-AggExpr Tree Tree Trees agg_step tree_step trees_step
+
+-- what the rows of a part are ordered by
+abbrev pub order_tree : Option (Box Expr Global × SortOptions) → Order
+order_tree None = no_order
+order_tree (Some o) = ordered (tree o.0.value) o.1
