@@ -109,10 +109,10 @@ is_unit_of_one _ unit = false
 
 abbrev pub one_input_facts : Context → FunctionExpr → Facts → Result Facts PxError
 one_input_facts place f a =
-    if is_on_groups place && (is_null_count f && a.implode) then Err (InvalidOperation AggAboveImplode)
+    if is_on_groups place && (is_null_count f && any_implode (a ∷ [])) then Err (InvalidOperation AggAboveImplode)
     else (if takes_rows f && is_scalar place a then Err (InvalidOperation ScalarOnGroups)
     else function_kind f (a.kind ∷ []) >>= λ k.
-    Ok (record { kind = k; unit = is_unit_of_one f a.unit; literal = a.literal; implode = a.implode }))
+    Ok (record { kind = k; unit = is_unit_of_one f a.unit; literal = all_literals (a ∷ []); implode = any_implode (a ∷ []) }))
 
 -- inputs that are compared with the first one
 abbrev pub compared_all : List Kind → Result Kind PxError

@@ -1,8 +1,10 @@
 //! The types of expressions.
 ghost use Rattle.std.specs.Prelude.{◌≡◌, option_map};
 ghost use Rattle.px_column.specs.Answer.{AnswersBy};
+ghost use Rattle.px_column.specs.KindView.{kind_of};
 ghost use Rattle.px_plan.specs.Facts.{facts_in, all_facts_in, order_facts_in, agg_facts};
 ghost use Rattle.px_plan.specs.FactsView.{facts_of, all_facts_of};
+ghost use Rattle.px_plan.specs.Typing.{type_of};
 ghost use Rattle.px_plan.specs.View.{tree, trees, agg_tree, order_tree};
 
 mod functions;
@@ -18,10 +20,28 @@ use nodes::{
     typed_agg, typed_binary, typed_cast, typed_column, typed_filter, typed_gather, typed_len,
     typed_literal, typed_slice, typed_sort, typed_sort_by, typed_ternary, typed_window,
 };
-use px_column::{GroupByMethod, Px, SortOptions};
+use px_column::{DataType, GroupByMethod, Px, SortOptions};
 use px_frame::Schema;
 use std::alloc::Global;
 use typed::Typed;
+
+/// The type of an expression's values over a schema, in a context (polars `AExpr::get_dtype`). The first
+/// refusal is answered: the inputs' from left to right, then the expression's own. A window's function
+/// stands on groups, its keys and its order on the frame.
+///
+/// On groups alone: `AggAboveImplode` where a reduction, a slice or a null count has an Implode below
+/// it, `AggLiteral` and `AggScalar` where a reduction has nothing but literals or one value below it,
+/// `ScalarOnGroups` where rows are chosen or moved in one value that is not made of literals, and
+/// `WindowOnGroups`. Everywhere: `ColumnNotFound`, `SchemaMismatch` where a predicate or a mask is not
+/// Boolean, `SingleIndex` where one row is asked for by several places, `NoKey` for a window without
+/// keys, `ListKey` where lists are compared, `RangeType`, and `Types` for all other types or numbers of
+/// inputs.
+pub fn type_of(alloc: Global, expr: &Expr, scope: &Schema, context: Context) -> Px<DataType>
+    ensures { AnswersBy kind_of result (type_of (tree expr.now) scope.now context) }
+{
+    let typed = typed_expr(alloc, expr, scope, context)?;
+    Ok(typed.dtype)
+}
 
 #[cycle(typing)]
 fn typed_expr(alloc: Global, expr: &Expr, scope: &Schema, context: Context) -> Px<Typed>
