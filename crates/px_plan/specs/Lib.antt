@@ -4,3 +4,4 @@ pub mod Shape
 pub mod Typing
 pub mod Facts
 pub mod FactsView
+pub mod Places

@@ -14,5 +14,5 @@ pub use expr::{AggExpr, Expr, Exprs};
 pub use function::FunctionExpr;
 pub use literal::LiteralValue;
 pub use naming::output_name;
-pub use typing::type_of;
+pub use typing::{type_of, type_on_groups};
 pub use window::{WindowMapping, WindowType};

@@ -4,8 +4,10 @@ ghost use Rattle.px_column.specs.Answer.{AnswersBy};
 ghost use Rattle.px_column.specs.KindView.{kind_of};
 ghost use Rattle.px_plan.specs.Facts.{facts_in, all_facts_in, order_facts_in, agg_facts};
 ghost use Rattle.px_plan.specs.FactsView.{facts_of, all_facts_of};
+ghost use Rattle.px_plan.specs.Places.{IsRefusedMoreOnGroups, KeepsTypeOnFrame};
 ghost use Rattle.px_plan.specs.Typing.{type_of};
 ghost use Rattle.px_plan.specs.View.{tree, trees, agg_tree, order_tree};
+ghost use Rattle.px_plan.specs.declared.context.Context.TheVariants.{Aggregation};
 
 mod functions;
 mod nodes;
@@ -41,6 +43,16 @@ pub fn type_of(alloc: Global, expr: &Expr, scope: &Schema, context: Context) -> 
 {
     let typed = typed_expr(alloc, expr, scope, context)?;
     Ok(typed.dtype)
+}
+
+/// The type of an expression on groups. Groups refuse more than the frame and give no other type: with
+/// a type on groups an expression has it on the frame too, over every schema.
+pub fn type_on_groups(alloc: Global, expr: &Expr, scope: &Schema) -> Px<DataType>
+    ensures answer { AnswersBy kind_of result (type_of (tree expr.now) scope.now Aggregation) }
+    ensures refuses_more { IsRefusedMoreOnGroups (tree expr.now) }
+    ensures keeps_type { KeepsTypeOnFrame (tree expr.now) }
+{
+    type_of(alloc, expr, scope, Context::Aggregation)
 }
 
 #[cycle(typing)]
