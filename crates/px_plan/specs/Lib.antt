@@ -11,3 +11,6 @@ pub mod Nodes
 pub mod Core
 pub mod Partition
 pub mod Cost
+pub mod Facts
+pub mod FactsView
+pub mod Places

@@ -83,3 +83,12 @@ agg_tree = fold-AggExpr Tree Tree Trees agg_step tree_step trees_step
 
 abbrev pub trees : Exprs → Trees
 trees = fold-Exprs Tree Tree Trees agg_step tree_step trees_step
+
+-- a reduction as its tree
+abbrev pub agg_tree : AggExpr → Tree
+agg_tree = fold-AggExpr Tree Tree Trees agg_step tree_step trees_step
+
+-- what the rows of a part are ordered by
+abbrev pub order_tree : Option (Box Expr Global × SortOptions) → Order
+order_tree None = no_order
+order_tree (Some o) = ordered (tree o.0.value) o.1

@@ -5,10 +5,14 @@ mod context;
 mod expr;
 mod function;
 mod literal;
+mod naming;
+mod typing;
 mod window;
 
 pub use context::Context;
 pub use expr::{AggExpr, Expr, Exprs};
 pub use function::FunctionExpr;
 pub use literal::LiteralValue;
+pub use naming::output_name;
+pub use typing::{type_of, type_on_groups};
 pub use window::{WindowMapping, WindowType};
