@@ -41,7 +41,10 @@ pub enum Expr {
     /// The values in an expression's lists, one after another.
     Explode(Box<Expr>),
     /// The rows for which `by` is true.
-    Filter { input: Box<Expr>, by: Box<Expr> },
+    Filter {
+        input: Box<Expr>,
+        by: Box<Expr>,
+    },
     /// A window of rows.
     Slice {
         input: Box<Expr>,
