@@ -5,3 +5,4 @@ pub mod Typing
 pub mod Nodes
 pub mod TreeCode
 pub mod Arena
+pub mod Parts

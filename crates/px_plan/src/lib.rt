@@ -3,6 +3,7 @@
 
 mod arena;
 mod context;
+mod copy;
 mod expr;
 mod function;
 mod literal;
