@@ -4,15 +4,12 @@ use Rattle.std.specs.List.{slice_get}
 use Rattle.std.proofs.lemmas.List.{get_or_append_left}
 use Rattle.std.proofs.Math.Seq.{get_or-append_seam}
 use Rattle.std.proofs.lemmas.Bool.Decides.{nat_tests}
-use Rattle.px_column.specs.declared.method.GroupByMethod.TheVariants as method
 use Rattle.px_column.specs.declared.sort_options.SortOptions.{SortOptions}
 use Rattle.px_plan.specs.Tree as t
 use Rattle.px_plan.specs.Tree.{Tree, Trees, Order, trees_of, ordered}
-use Rattle.px_plan.specs.Arena.{tree_at, trees_at, order_at, agg_tree, node_tree, is_below, all_below, order_below, agg_below, children_below, grow, trees_in, IsArena}
+use Rattle.px_plan.specs.Arena.{tree_at, trees_at, order_at, agg_input, agg_method, node_tree, is_below, all_below, order_below, children_below, grow, trees_in, IsArena}
 use Rattle.px_plan.specs.declared.node.AExpr.{AExpr}
 use Rattle.px_plan.specs.declared.node.AExpr.TheVariants.{Column, Literal, Alias, BinaryExpr, Ternary, Cast, Function, Explode, Filter, Slice, Gather, Sort, SortBy, Agg, Len, Window}
-use Rattle.px_plan.specs.declared.node.IRAggExpr.{IRAggExpr}
-use Rattle.px_plan.specs.declared.node.IRAggExpr.TheVariants.{Min, Max, Sum, First, Last, NUnique, Implode, Count}
 use Rattle.px_plan.specs.declared.node.Node.{Node}
 
 -- us has what ts has below n
@@ -37,16 +34,6 @@ trees_same n ts us (e ∷ es) h b =
 pub order_same : (n : ℕ) (ts us : List Tree) (o : Option (Node × SortOptions)) → Agree n ts us → order_below n o ≡ true → order_at us o ≡ order_at ts o
 order_same n ts us None h b = refl
 order_same n ts us (Some o) h b = ap (λ x. ordered x o.1) (h o.0 b)
-
-pub agg_same : (n : ℕ) (ts us : List Tree) (a : IRAggExpr) → Agree n ts us → agg_below n a ≡ true → agg_tree us a ≡ agg_tree ts a
-agg_same n ts us (Min e) h b = ap (t.agg method.Min) (h e b)
-agg_same n ts us (Max e) h b = ap (t.agg method.Max) (h e b)
-agg_same n ts us (Sum e) h b = ap (t.agg method.Sum) (h e b)
-agg_same n ts us (First e) h b = ap (t.agg method.First) (h e b)
-agg_same n ts us (Last e) h b = ap (t.agg method.Last) (h e b)
-agg_same n ts us (NUnique e) h b = ap (t.agg method.NUnique) (h e b)
-agg_same n ts us (Implode e) h b = ap (t.agg method.Implode) (h e b)
-agg_same n ts us (Count e m) h b = ap (t.agg (method.Count m)) (h e b)
 
 -- two and three children
 two_same : (n : ℕ) (ts us : List Tree) (x y : Node) (make : Tree → Tree → Tree) → Agree n ts us → (is_below n x && is_below n y) ≡ true → make (tree_at us x) (tree_at us y) ≡ make (tree_at ts x) (tree_at ts y)
@@ -80,7 +67,7 @@ node_same n ts us (SortBy e by options) h b =
     let p = h e (and_left (is_below n e) (all_below n by.items) b) in
     let q = trees_same n ts us by.items h (and_right (is_below n e) (all_below n by.items) b) in
     cc
-node_same n ts us (Agg a) h b = agg_same n ts us a h b
+node_same n ts us (Agg a) h b = ap (t.agg (agg_method a)) (h (agg_input a) b)
 node_same n ts us Len h b = refl
 node_same n ts us (Window f keys order options) h b =
     let p = h f (and_left (is_below n f) (all_below n keys.items && order_below n order) b) in

@@ -1,6 +1,7 @@
 -- What contracts see of an arena: the trees of its nodes, each made of the trees that stand before it.
 use Rattle.std.specs.Prelude.{◌≡◌, ℕ, ◌<◌, ◌^◌, Bool, true, ◌&&◌, nat_lt, List, [], ◌∷◌, ◌++◌, length, map, Option, Some, None, slice_index_or, slice_get}
 use Rattle.px_column.specs.KindView.{kind_of}
+use Rattle.px_column.specs.declared.method.GroupByMethod.{GroupByMethod}
 use Rattle.px_column.specs.declared.method.GroupByMethod.TheVariants as method
 use Rattle.px_column.specs.declared.sort_options.SortOptions.{SortOptions}
 use Rattle.px_plan.specs.Tree as t
@@ -24,15 +25,29 @@ abbrev pub order_at : List Tree → Option (Node × SortOptions) → Order
 order_at ts None = no_order
 order_at ts (Some o) = ordered (tree_at ts o.0) o.1
 
+-- what is reduced, and how
+abbrev pub agg_input : IRAggExpr → Node
+agg_input (agg.Min e) = e
+agg_input (agg.Max e) = e
+agg_input (agg.Sum e) = e
+agg_input (agg.First e) = e
+agg_input (agg.Last e) = e
+agg_input (agg.NUnique e) = e
+agg_input (agg.Implode e) = e
+agg_input (agg.Count e b) = e
+
+abbrev pub agg_method : IRAggExpr → GroupByMethod
+agg_method (agg.Min e) = method.Min
+agg_method (agg.Max e) = method.Max
+agg_method (agg.Sum e) = method.Sum
+agg_method (agg.First e) = method.First
+agg_method (agg.Last e) = method.Last
+agg_method (agg.NUnique e) = method.NUnique
+agg_method (agg.Implode e) = method.Implode
+agg_method (agg.Count e b) = method.Count b
+
 abbrev pub agg_tree : List Tree → IRAggExpr → Tree
-agg_tree ts (agg.Min e) = t.agg method.Min (tree_at ts e)
-agg_tree ts (agg.Max e) = t.agg method.Max (tree_at ts e)
-agg_tree ts (agg.Sum e) = t.agg method.Sum (tree_at ts e)
-agg_tree ts (agg.First e) = t.agg method.First (tree_at ts e)
-agg_tree ts (agg.Last e) = t.agg method.Last (tree_at ts e)
-agg_tree ts (agg.NUnique e) = t.agg method.NUnique (tree_at ts e)
-agg_tree ts (agg.Implode e) = t.agg method.Implode (tree_at ts e)
-agg_tree ts (agg.Count e b) = t.agg (method.Count b) (tree_at ts e)
+agg_tree ts a = t.agg (agg_method a) (tree_at ts (agg_input a))
 
 -- the tree of a node over the trees at its children's places
 abbrev pub node_tree : List Tree → AExpr → Tree
@@ -65,16 +80,6 @@ abbrev pub order_below : ℕ → Option (Node × SortOptions) → Bool
 order_below i None = true
 order_below i (Some o) = is_below i o.0
 
-abbrev pub agg_below : ℕ → IRAggExpr → Bool
-agg_below i (agg.Min e) = is_below i e
-agg_below i (agg.Max e) = is_below i e
-agg_below i (agg.Sum e) = is_below i e
-agg_below i (agg.First e) = is_below i e
-agg_below i (agg.Last e) = is_below i e
-agg_below i (agg.NUnique e) = is_below i e
-agg_below i (agg.Implode e) = is_below i e
-agg_below i (agg.Count e b) = is_below i e
-
 -- whether each child of a node stands before a place
 abbrev pub children_below : ℕ → AExpr → Bool
 children_below i (node.Column n) = true
@@ -90,7 +95,7 @@ children_below i (node.Slice e offset length) = is_below i e && (is_below i offs
 children_below i (node.Gather e idx one) = is_below i e && is_below i idx
 children_below i (node.Sort e options) = is_below i e
 children_below i (node.SortBy e by options) = is_below i e && all_below i by.items
-children_below i (node.Agg a) = agg_below i a
+children_below i (node.Agg a) = is_below i (agg_input a)
 children_below i node.Len = true
 children_below i (node.Window f keys order options) = is_below i f && (all_below i keys.items && order_below i order)
 

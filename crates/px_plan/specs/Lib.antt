@@ -6,3 +6,4 @@ pub mod Nodes
 pub mod TreeCode
 pub mod Arena
 pub mod Parts
+pub mod Named

@@ -1,6 +1,7 @@
 //! Literals.
 ghost use Rattle.std.specs.Prelude.{◌≡◌, Ok};
 ghost use Rattle.px_column.specs.Answer.{AnswersBy};
+ghost use Rattle.px_plan.specs.Shape.{is_single};
 ghost use Rattle.px_plan.specs.View.{literal_of};
 
 use px_column::{ByteString, Column, DataType, Name, Px};
@@ -33,6 +34,13 @@ pub enum LiteralValue {
 }
 
 impl LiteralValue {
+    /// Whether it is one value, and no range or column.
+    pub fn is_single(&self) -> bool
+        ensures { result ≡ is_single (literal_of self.now) }
+    {
+        !matches!(self, LiteralValue::Range { .. } | LiteralValue::Series(_))
+    }
+
     /// An equal literal.
     pub fn try_clone(&self, alloc: Global) -> Px<LiteralValue>
         ensures { AnswersBy literal_of result (Ok (literal_of self.now)) }

@@ -1,4 +1,6 @@
 //! Nodes of an arena.
+ghost use Rattle.std.specs.Prelude.{◌≡◌};
+ghost use Rattle.px_plan.specs.Arena.{agg_input};
 
 use crate::function::FunctionExpr;
 use crate::literal::LiteralValue;
@@ -103,4 +105,22 @@ pub enum IRAggExpr {
     Implode(Node),
     /// The number of rows, with nulls or without.
     Count(Node, bool),
+}
+
+impl IRAggExpr {
+    /// The place of what is reduced.
+    pub fn input(self) -> Node
+        ensures { result ≡ agg_input self }
+    {
+        match self {
+            IRAggExpr::Min(expr) => expr,
+            IRAggExpr::Max(expr) => expr,
+            IRAggExpr::Sum(expr) => expr,
+            IRAggExpr::First(expr) => expr,
+            IRAggExpr::Last(expr) => expr,
+            IRAggExpr::NUnique(expr) => expr,
+            IRAggExpr::Implode(expr) => expr,
+            IRAggExpr::Count(expr, _) => expr,
+        }
+    }
 }
