@@ -1,6 +1,9 @@
 //! How rows are sorted.
-ghost use Rattle.std.specs.Prelude.{◌≡◌};
+ghost use Rattle.std.specs.Prelude.{◌≡◌, Ok};
+ghost use Rattle.px_column.specs.Answer.{Answers};
 
+use crate::error::Px;
+use std::alloc::Global;
 use std::marker::Model;
 
 /// How rows are sorted by one key (polars `SortOptions`).
@@ -18,6 +21,20 @@ pub struct SortOptions {
 pub struct SortMultipleOptions {
     pub descending: Flags,
     pub nulls_last: Flags,
+}
+
+impl SortMultipleOptions {
+    /// Equal options.
+    pub fn try_clone(&self, alloc: Global) -> Px<SortMultipleOptions>
+        ensures { Answers result (Ok self.now) }
+    {
+        let descending = self.descending.try_clone(alloc)?;
+        let nulls_last = self.nulls_last.try_clone(alloc)?;
+        Ok(SortMultipleOptions {
+            descending,
+            nulls_last,
+        })
+    }
 }
 
 /// Truths in an order; seen as their list.
@@ -47,5 +64,14 @@ impl Flags {
         ensures { result.now ≡ self.now }
     {
         self.items.as_slice()
+    }
+
+    /// Equal truths.
+    pub fn try_clone(&self, alloc: Global) -> Px<Flags>
+        ensures { Answers result (Ok self.now) }
+    {
+        Ok(Flags {
+            items: Vec::from_slice(alloc, self.as_slice())?,
+        })
     }
 }

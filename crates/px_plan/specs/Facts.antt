@@ -5,6 +5,7 @@ use Rattle.px_column.specs.Cast.{is_cast}
 use Rattle.px_column.specs.Kind.{Kind, uint32s, kind_eq, is_list_kind}
 use Rattle.px_column.specs.Operator.{operator_kind, is_integer_kind, is_boolean_kind}
 use Rattle.px_column.specs.Reduction.{reduced_kind}
+use Rattle.px_column.specs.Result.{◌>>=◌}
 use Rattle.px_column.specs.declared.error.PxError.{PxError}
 use Rattle.px_column.specs.declared.error.PxError.TheVariants.{ColumnNotFound, InvalidOperation, ComputeError, SchemaMismatch}
 use Rattle.px_column.specs.declared.error.InvalidWhy.TheVariants.{WindowOnGroups, AggAboveImplode, ScalarOnGroups, ListKey, RangeType, Types}
@@ -26,12 +27,6 @@ pub record Facts : Type 0 where
   pub unit : Bool
   pub literal : Bool
   pub implode : Bool
-
--- what comes next, where nothing was refused
-infixl 10 ◌>>=◌
-abbrev pub ◌>>=◌ : {A B : Type 0} → Result A PxError → (A → Result B PxError) → Result B PxError
-Ok a >>= f = f a
-Err e >>= f = Err e
 
 abbrev pub kinds_of : List Facts → List Kind
 kinds_of inputs = map (λ a. a.kind) inputs

@@ -1,7 +1,6 @@
 pub mod Tree
 pub mod View
 pub mod Shape
-pub mod Leaves
 pub mod Typing
 pub mod Node
 pub mod Window
@@ -14,3 +13,7 @@ pub mod Cost
 pub mod Facts
 pub mod FactsView
 pub mod Places
+pub mod TreeCode
+pub mod Arena
+pub mod Parts
+pub mod Named

@@ -1,7 +1,8 @@
--- How many nodes an expression has.
-use Rattle.std.specs.Prelude.{ℕ, ◌+◌}
+-- The nodes of an expression's tree: how many there are, their trees, and the names of its columns.
+use Rattle.std.specs.Prelude.{ℕ, ◌+◌, List, [], ◌∷◌, ◌++◌}
 use Rattle.px_plan.specs.Tree.{Tree, Trees, Order, no_trees, one_tree, no_order, ordered, column, literal, alias, binary, ternary, cast, function, filter, slice, gather, sort, sort_by, agg, len, window}
 
+-- how many nodes a tree has
 abbrev mutual
   pub nodes_of : Tree → ℕ
   nodes_of (column n) = 1
@@ -27,3 +28,57 @@ abbrev mutual
   pub order_nodes_of : Order → ℕ
   order_nodes_of no_order = 0
   order_nodes_of (ordered t options) = nodes_of t
+
+-- the trees of a tree's nodes, each after those of its children, and these from left to right
+abbrev mutual
+  pub postorder : Tree → List Tree
+  postorder (column n) = column n ∷ []
+  postorder (literal v) = literal v ∷ []
+  postorder (alias e n) = postorder e ++ alias e n ∷ []
+  postorder (binary l op r) = (postorder l ++ postorder r) ++ binary l op r ∷ []
+  postorder (ternary p a b) = (postorder p ++ (postorder a ++ postorder b)) ++ ternary p a b ∷ []
+  postorder (cast e k options) = postorder e ++ cast e k options ∷ []
+  postorder (function es f) = all_postorder es ++ function es f ∷ []
+  postorder (filter e by) = (postorder e ++ postorder by) ++ filter e by ∷ []
+  postorder (slice e offset length) = (postorder e ++ (postorder offset ++ postorder length)) ++ slice e offset length ∷ []
+  postorder (gather e idx one) = (postorder e ++ postorder idx) ++ gather e idx one ∷ []
+  postorder (sort e options) = postorder e ++ sort e options ∷ []
+  postorder (sort_by e by options) = (postorder e ++ all_postorder by) ++ sort_by e by options ∷ []
+  postorder (agg m e) = postorder e ++ agg m e ∷ []
+  postorder len = len ∷ []
+  postorder (window f keys order mapping) = (postorder f ++ (all_postorder keys ++ order_postorder order)) ++ window f keys order mapping ∷ []
+
+  pub all_postorder : Trees → List Tree
+  all_postorder no_trees = []
+  all_postorder (one_tree t ts) = postorder t ++ all_postorder ts
+
+  pub order_postorder : Order → List Tree
+  order_postorder no_order = []
+  order_postorder (ordered t options) = postorder t
+
+-- the names of the columns that are a tree's leaves, from left to right, with repeats
+abbrev mutual
+  pub leaf_names : Tree → List (List ℕ)
+  leaf_names (column n) = n ∷ []
+  leaf_names (literal v) = []
+  leaf_names (alias e n) = leaf_names e
+  leaf_names (binary l op r) = leaf_names l ++ leaf_names r
+  leaf_names (ternary p a b) = leaf_names p ++ (leaf_names a ++ leaf_names b)
+  leaf_names (cast e k options) = leaf_names e
+  leaf_names (function es f) = all_leaf_names es
+  leaf_names (filter e by) = leaf_names e ++ leaf_names by
+  leaf_names (slice e offset length) = leaf_names e ++ (leaf_names offset ++ leaf_names length)
+  leaf_names (gather e idx one) = leaf_names e ++ leaf_names idx
+  leaf_names (sort e options) = leaf_names e
+  leaf_names (sort_by e by options) = leaf_names e ++ all_leaf_names by
+  leaf_names (agg m e) = leaf_names e
+  leaf_names len = []
+  leaf_names (window f keys order mapping) = leaf_names f ++ (all_leaf_names keys ++ order_leaf_names order)
+
+  pub all_leaf_names : Trees → List (List ℕ)
+  all_leaf_names no_trees = []
+  all_leaf_names (one_tree t ts) = leaf_names t ++ all_leaf_names ts
+
+  pub order_leaf_names : Order → List (List ℕ)
+  order_leaf_names no_order = []
+  order_leaf_names (ordered t options) = leaf_names t
