@@ -85,9 +85,6 @@ abbrev pub trees : Exprs → Trees
 trees = fold-Exprs Tree Tree Trees agg_step tree_step trees_step
 
 -- a reduction as its tree
-abbrev pub agg_tree : AggExpr → Tree
-agg_tree = fold-AggExpr Tree Tree Trees agg_step tree_step trees_step
-
 -- what the rows of a part are ordered by
 abbrev pub order_tree : Option (Box Expr Global × SortOptions) → Order
 order_tree None = no_order
