@@ -9,3 +9,4 @@ pub mod Fields
 pub mod Built
 pub mod Each
 pub mod Made
+pub mod Beside

@@ -1,5 +1,6 @@
 pub mod Frame
 pub mod Cell
+pub mod CellView
 pub mod Spread
 pub mod Parts
 pub mod Groups

@@ -39,7 +39,7 @@ impl Model for DataFrame {
 }
 
 /// One more name, unless it is there already.
-fn add_name(alloc: Global, names: &mut IndexSet<Name>, name: &Name) -> Px<()>
+pub(crate) fn add_name(alloc: Global, names: &mut IndexSet<Name>, name: &Name) -> Px<()>
     ensures answer { Answers result (if list_any (name_eq name.now) names.old.keys then Err (Duplicate name.now) else Ok tt) }
     ensures added { OnOk result (names.new.keys ≡ names.old.keys ++ name.now ∷ []) }
 {
@@ -95,6 +95,15 @@ impl DataFrame {
         } else {
             Err(PxError::ShapeMismatch)
         }
+    }
+
+    /// The frame of these columns, whose names are distinct, in their order, and whose lengths agree.
+    pub(crate) fn from_columns(columns: Vec<Column>, names: IndexSet<Name>) -> DataFrame
+        requires names { names.keys ≡ names_of columns.items }
+        requires frame { IsFrame columns.items }
+        ensures { result ≡ columns.items }
+    {
+        DataFrame { columns, names }
     }
 
     /// The column of a name, `None` where there is none.

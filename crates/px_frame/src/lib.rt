@@ -2,6 +2,7 @@
 #![tactic(auto)]
 
 mod aggregate;
+mod cell;
 mod frame;
 mod grouping;
 mod groups;
@@ -10,6 +11,7 @@ mod schema;
 mod tests;
 
 pub use aggregate::{agg_sum, key_rows};
+pub use cell::{Cell, UnitColumn, assemble, spread};
 pub use frame::DataFrame;
 pub use grouping::group_by;
 pub use groups::{GroupPositions, GroupsIndicator, GroupsType, IdxVec};

@@ -11,6 +11,8 @@ use std::marker::Brand;
 use std::sync::ledger::{Blank, Ledger};
 use std::test::Fail;
 
+mod steps;
+
 /// The next number of a linear congruential generator, below the bound.
 fn next(state: &mut u64, bound: u32) -> u32
     requires { 0 < bound }

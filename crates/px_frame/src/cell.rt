@@ -1,0 +1,148 @@
+//! The values of expressions side by side: units, which take any length, beside lists of one length.
+ghost use Rattle.std.specs.Prelude.{◌≡◌, [], Ok, length, map};
+ghost use Rattle.px_column.specs.Answer.{Answers, AnswersBy};
+ghost use Rattle.px_column.specs.Repeat.{repeated};
+ghost use Rattle.px_column.specs.Series.{slot_at};
+ghost use Rattle.px_frame.specs.CellView.{named_cell};
+ghost use Rattle.px_frame.specs.Frame.{first_repeat, unless_repeated};
+ghost use Rattle.px_frame.specs.Spread.{assembled, rows_beside, spread_all, spread_column};
+
+use crate::frame::{DataFrame, add_name};
+use indexmap::IndexSet;
+use px_column::{Column, Name, Px, PxError};
+use std::alloc::Global;
+use std::marker::Model;
+
+#[cfg(test)]
+mod tests;
+
+/// A column of exactly one row (polars `ScalarColumn`), seen as that column.
+#[derive(Drop)]
+pub struct UnitColumn {
+    column: Column,
+}
+
+impl Model for UnitColumn {
+    ghost use Rattle.px_column.specs.Series.{Series, coded_series};
+
+    ghost Value = { Series };
+
+    ghost coded = { coded_series };
+
+    ghost use Rattle.std.specs.Prelude.{◌≡◌, length};
+
+    ghost view = { λ u. u.column };
+
+    ghost invariant = { λ u. length u.column.slots ≡ 1 };
+}
+
+/// The value of an expression on a frame: one value, which stands beside lists of any length, or one
+/// for each of some rows.
+#[derive(Drop)]
+pub enum Cell {
+    /// One value.
+    Unit(UnitColumn),
+    /// One value for each row. One row is no unit.
+    Rows(Column),
+}
+
+impl UnitColumn {
+    /// The unit that a column of one row holds.
+    pub fn new(column: Column) -> UnitColumn
+        requires { length column.slots ≡ 1 }
+        ensures { result ≡ column }
+    {
+        UnitColumn { column }
+    }
+
+    /// The column of one row.
+    pub fn as_column(&self) -> &Column
+        ensures column { result.now ≡ self.now }
+        ensures one { length self.now.slots ≡ 1 }
+    {
+        &self.column
+    }
+
+    /// The unit at each of `height` rows.
+    fn repeated(&self, alloc: Global, height: u32) -> Px<Column>
+        ensures { Answers result (Ok (repeated self.now.name self.now.kind (slot_at self.now.slots 0) height)) }
+    {
+        self.column.new_from_index(alloc, 0, height)
+    }
+}
+
+impl Cell {
+    /// The name of the values.
+    pub fn name(&self) -> &Name
+        ensures { result.now ≡ (named_cell self.now).name }
+    {
+        match self {
+            Cell::Unit(unit) => unit.as_column().name(),
+            Cell::Rows(column) => column.name(),
+        }
+    }
+}
+
+/// A cell as a column of `height` rows: a unit stands at each, and rows stand as they are, with no
+/// copy; `ShapeMismatch` where there is another number of rows, be it one (polars
+/// `DataFrame::new_with_broadcast_len`, which repeats lists of one row too).
+pub fn spread(alloc: Global, cell: Cell, height: u32) -> Px<Column>
+    ensures { Answers result (spread_column height (named_cell cell)) }
+{
+    match cell {
+        Cell::Unit(unit) => unit.repeated(alloc, height),
+        Cell::Rows(column) => {
+            if column.len() == height {
+                Ok(column)
+            } else {
+                Err(PxError::ShapeMismatch)
+            }
+        }
+    }
+}
+
+/// The number of rows of the first list, and 1 without one.
+fn rows_beside(cells: &[Cell]) -> u32
+    ensures { result ≡ rows_beside (map (λ c. c.cell) (map named_cell cells.now)) }
+{
+    for cell in cells {
+        if let Cell::Rows(column) = cell {
+            return column.len();
+        }
+    }
+    1
+}
+
+fn distinct_names(alloc: Global, cells: &[Cell]) -> Px<IndexSet<Name>>
+    ensures { AnswersBy (λ s. s.keys) result (unless_repeated (first_repeat [] (map (λ c. c.name) (map named_cell cells.now))) (Ok (map (λ c. c.name) (map named_cell cells.now)))) }
+{
+    let mut names = IndexSet::new(alloc);
+    for cell in cells {
+        add_name(alloc, &mut names, cell.name())?;
+    }
+    Ok(names)
+}
+
+/// Each cell as a column of `height` rows.
+fn spread_each(alloc: Global, cells: Vec<Cell>, height: u32) -> Px<Vec<Column>>
+    ensures { AnswersBy (λ v. v.items) result (spread_all height (map named_cell cells.items)) }
+{
+    let mut columns = Vec::with_capacity(alloc, cells.len())?;
+    for cell in cells {
+        columns.push(spread(alloc, cell, height)?)?;
+    }
+    Ok(columns)
+}
+
+/// The frame of some cells side by side: units take the length of the lists beside them, and have one
+/// row without lists; no cell gives no column. `Duplicate` with the first name that stands earlier
+/// too, then `ShapeMismatch` where lists differ in length (polars `DataFrame::new_with_broadcast`,
+/// which repeats lists of one row too).
+pub fn assemble(alloc: Global, cells: Vec<Cell>) -> Px<DataFrame>
+    ensures { Answers result (assembled (map named_cell cells.items)) }
+{
+    let names = distinct_names(alloc, &cells)?;
+    let height = rows_beside(&cells);
+    let columns = spread_each(alloc, cells, height)?;
+    Ok(DataFrame::from_columns(columns, names))
+}
