@@ -1,0 +1,6 @@
+//! Laws of what expressions mean. A function here does nothing: its clause is the law, for each expression.
+#![tactic(auto)]
+
+mod value;
+
+pub use value::{alias_changes_the_name_alone, value_has_its_shape};
