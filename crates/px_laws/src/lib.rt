@@ -3,4 +3,6 @@
 
 mod value;
 
-pub use value::{alias_changes_the_name_alone, value_has_its_shape};
+pub use value::{
+    alias_changes_the_name_alone, value_has_its_shape, value_needs_no_external_column,
+};
