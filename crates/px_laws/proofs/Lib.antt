@@ -1,2 +1,4 @@
 pub mod Shapes
 pub mod Beside
+pub mod KindThere
+pub mod Defined
