@@ -1,5 +1,5 @@
 -- The best of the present values, row by row.
-use Rattle.std.proofs.Common.{◌≡◌, ℕ, ◌+◌, ◌<◌, List, [], ◌∷◌, Some, None, length, take, fold, refl}
+use Rattle.std.proofs.Common.{◌≡◌, List, [], ◌∷◌, Some, None, fold, refl}
 use Rattle.std.specs.List.{reduce}
 use Rattle.px_column.specs.Datum.{Datum, Slot}
 use Rattle.px_column.specs.Reduction.{better, values_of}

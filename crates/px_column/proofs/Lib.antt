@@ -13,3 +13,7 @@ pub mod CastRows
 pub mod OrderRows
 pub mod FunctionRows
 pub mod ReductionRows
+pub mod Rising
+pub mod Inserting
+pub mod RowOrder
+pub mod Ranges

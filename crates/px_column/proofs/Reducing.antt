@@ -1,5 +1,5 @@
 -- A reduction fits its type.
-use Rattle.std.proofs.Common.{◌≡◌, ℕ, ◌^◌, ◌<◌, ◌&&◌, Bool, true, false, cond, List, [], ◌∷◌, Option, Some, None, Result, Ok, Err, length, fold, nat_lt, refl, subst, sym, ap, arith}
+use Rattle.std.proofs.Common.{◌≡◌, ℕ, ◌^◌, ◌<◌, ◌&&◌, Bool, true, false, cond, List, [], ◌∷◌, Option, Some, None, Ok, Err, length, fold, nat_lt, refl, subst, sym, ap, arith}
 use Rattle.std.specs.List.{reduce}
 use Rattle.std.specs.Ordering.{is_lt, ord_min, ord_max}
 use Rattle.std.proofs.lemmas.Bool.Decides.{nat_tests}
@@ -7,7 +7,7 @@ use Rattle.px_column.specs.Datum.{Datum, Slot, slots}
 use Rattle.px_column.specs.Kind.{Kind, booleans, int8s, int16s, int32s, int64s, uint8s, uint16s, uint32s, uint64s, strings, binaries, nulls, lists, is_list_kind, fits, all_fit, slot_fits, slots_fit}
 use Rattle.px_column.specs.Operator.{is_integer_kind}
 use Rattle.px_column.specs.Order.{datum_cmp}
-use Rattle.px_column.specs.Reduction.{values_of, unless_list, kind_there, reduced_kind, reduced_slot, sum_slot, count_slot}
+use Rattle.px_column.specs.Reduction.{values_of, kind_there, reduced_kind, reduced_slot, sum_slot, count_slot}
 use Rattle.px_column.specs.Series.{IsColumn}
 use Rattle.px_column.specs.Sum.{sum_kind, total}
 use Rattle.px_column.specs.declared.error.PxError.{PxError}

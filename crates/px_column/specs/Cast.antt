@@ -6,7 +6,7 @@ use Rattle.std.specs.Fmt.{signed_decimal}
 use Rattle.std.specs.Str.{all_ascii_digits}
 use Rattle.std.specs.Str.Parse.{digits_value}
 use Rattle.px_column.specs.Datum.{Datum, boolean, integer, text, bytes, list, Slots, no_slots, absent, present, Slot, slots, items}
-use Rattle.px_column.specs.Kind.{Kind, booleans, int8s, int16s, int32s, int64s, uint8s, uint16s, uint32s, uint64s, strings, binaries, nulls, lists, kind_eq}
+use Rattle.px_column.specs.Kind.{Kind, booleans, strings, binaries, nulls, lists}
 use Rattle.px_column.specs.Operator.{is_integer_kind, is_boolean_kind, is_string_kind, kind_where, is_zero}
 use Rattle.px_column.specs.Wrap.{wrapped_in, is_in_range}
 use Rattle.px_column.specs.declared.cast_options.CastOptions.{CastOptions}

@@ -1,7 +1,6 @@
 -- What casts make of small values, of each pair of types.
-use Rattle.std.specs.Prelude.{◌≡◌, List, [], ◌∷◌, Result, Ok, Err, codes}
+use Rattle.std.specs.Prelude.{◌≡◌, [], ◌∷◌, Result, Ok, Err, codes}
 use Rattle.px_column.specs.Cast.{cast_slot, cast_slots}
-use Rattle.px_column.specs.Datum.{Slot}
 use Rattle.px_column.specs.Kind.{booleans, int8s, int64s, uint8s, uint64s, strings, binaries, nulls, lists}
 use Rattle.px_column.specs.Rows.{num, neg, yes, no, gone, list_of, text_of, bytes_of}
 use Rattle.px_column.specs.declared.cast_options.CastOptions.TheVariants.{Strict, NonStrict, Overflowing}

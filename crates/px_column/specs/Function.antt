@@ -1,7 +1,7 @@
 -- Functions of a slot, and of a column's slots.
-use Rattle.std.specs.Prelude.{ℕ, ◌+◌, ◌-◌, min, ℤ, pos, negsuc, ◌+ℤ◌, ◌-ℤ◌, Bool, not, List, [], ◌∷◌, Option, Some, None, length, map, filter, flat_map, take, drop, is_some, is_none}
+use Rattle.std.specs.Prelude.{ℕ, ◌-◌, min, ℤ, pos, negsuc, ◌+ℤ◌, ◌-ℤ◌, not, List, [], ◌∷◌, Option, Some, None, length, map, filter, flat_map, take, drop, is_some, is_none}
 use Rattle.std.specs.List.{list_any, range_with_len}
-use Rattle.px_column.specs.Datum.{boolean, list, Slots, no_slots, absent, present, Slot, items}
+use Rattle.px_column.specs.Datum.{boolean, list, Slots, no_slots, Slot, items}
 use Rattle.px_column.specs.Equality.{slot_eq}
 use Rattle.px_column.specs.Kind.{Kind, booleans}
 use Rattle.px_column.specs.Operator.{truth, operated}

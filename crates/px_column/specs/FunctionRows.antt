@@ -1,9 +1,9 @@
 -- What functions of slots make of small columns: nulls, empty lists, shifts and slices past both ends.
-use Rattle.std.specs.Prelude.{◌≡◌, ℕ, pos, negsuc, List, [], ◌∷◌, Some, None}
+use Rattle.std.specs.Prelude.{◌≡◌, pos, negsuc, List, [], ◌∷◌, Some, None}
 use Rattle.px_column.specs.Datum.{Slot}
 use Rattle.px_column.specs.Function.{is_null_slot, is_not_null_slot, not_slot, between_slot, in_slot, shifted, present_slots, exploded, slice_window, window_of}
 use Rattle.px_column.specs.Kind.{int64s}
-use Rattle.px_column.specs.Rows.{num, neg, yes, no, gone, list_of}
+use Rattle.px_column.specs.Rows.{num, yes, no, gone, list_of}
 use Rattle.px_column.specs.declared.closed_interval.ClosedInterval.TheVariants as ends
 
 abbrev pub three : List Slot

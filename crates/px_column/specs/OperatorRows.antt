@@ -1,8 +1,8 @@
 -- What operators make of small values: nulls, both signs of a division, both ends of a type.
 use Rattle.std.specs.Prelude.{◌≡◌, [], ◌∷◌, codes}
-use Rattle.px_column.specs.Kind.{booleans, int8s, int64s, uint8s, uint64s, strings, binaries, lists}
+use Rattle.px_column.specs.Kind.{booleans, int8s, int64s, uint8s, uint64s, strings, binaries}
 use Rattle.px_column.specs.Operator.{operated}
-use Rattle.px_column.specs.Rows.{num, neg, yes, no, gone, list_of, text_of, bytes_of}
+use Rattle.px_column.specs.Rows.{num, neg, yes, no, gone, text_of, bytes_of}
 use Rattle.px_column.specs.declared.operator.Operator.TheVariants.{Eq, EqValidity, NotEq, NotEqValidity, Lt, LtEq, Gt, GtEq, Plus, Minus, Multiply, Divide, FloorDivide, Modulus, And, Or, Xor, LogicalAnd, LogicalOr}
 
 pub record ComparisonRows : Type 0 where

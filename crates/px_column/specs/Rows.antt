@@ -1,5 +1,5 @@
 -- Slots of which the tables of small cases speak.
-use Rattle.std.specs.Prelude.{ℕ, ℤ, pos, neg_ℤ, Bool, true, false, String, List, Some, None, codes}
+use Rattle.std.specs.Prelude.{ℕ, pos, neg_ℤ, true, false, List, Some, None}
 use Rattle.px_column.specs.Datum.{boolean, integer, text, bytes, list, Slot, slots}
 
 -- a number, and its negative

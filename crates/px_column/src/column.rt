@@ -11,7 +11,7 @@ ghost use Rattle.px_column.specs.View.{slot_of, slots_of};
 use crate::data_type::DataType;
 use crate::error::{InvalidWhy, Px, PxError};
 use crate::name::Name;
-use crate::value::{Value, Values};
+use crate::value::Value;
 use crate::value_ref::{ValueRef, copy_slot, lend, slot_fits};
 use std::alloc::Global;
 use std::marker::Model;
@@ -85,7 +85,7 @@ fn are_within(len: usize, indices: &[Option<u32>]) -> bool
     true
 }
 
-fn copy_slots(alloc: Global, rows: &[Option<Value>]) -> Px<Vec<Option<Value>>>
+pub(crate) fn copy_slots(alloc: Global, rows: &[Option<Value>]) -> Px<Vec<Option<Value>>>
     ensures { AnswersBy (λ v. slots_of v.items) result (Ok (slots_of rows.now)) }
 {
     let mut copies = Vec::with_capacity(alloc, rows.len())?;
@@ -214,11 +214,13 @@ impl Column {
         slot(&self.rows, row)
     }
 
-    /// The rows, copied, as the items of a list.
-    pub(crate) fn to_values(&self, alloc: Global) -> Px<Values>
-        ensures { Answers result (Ok self.now.slots) }
+    /// The rows, lent: each fits the type.
+    pub(crate) fn rows(&self) -> &[Option<Value>]
+        ensures value { slots_of result.now ≡ self.now.slots }
+        ensures fit { slots_fit self.now.kind (slots_of result.now) ≡ true }
+        ensures short { length result.now < 2 ^ 32 }
     {
-        Ok(Values::from_vec(copy_slots(alloc, &self.rows)?))
+        &self.rows
     }
 
     /// An equal column.

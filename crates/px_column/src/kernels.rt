@@ -3,4 +3,5 @@
 mod distinct;
 mod extremes;
 mod reduce;
+mod sort;
 pub mod sum;

@@ -212,3 +212,54 @@ fn no_row_becomes_one(rt: HostRuntime) -> Result<(), Fail> {
     assert!(rt; imploded(alloc, &column)?.is_empty());
     Ok(())
 }
+
+fn counted_sort<L: Ledger>(
+    alloc: Global,
+    column: &Column,
+    options: SortOptions,
+    blank: Blank,
+) -> Px<Vec<u32>>
+    requires name { blank.name ≡ L.name }
+    requires parts { blank.parts ≡ L.parts }
+    requires some { 0 < blank.parts }
+{
+    let mut kernels = Steps::<L>::new(blank);
+    column.arg_sort(alloc, options, &mut kernels)
+}
+
+fn sorted(alloc: Global, column: &Column, descending: bool, nulls_last: bool) -> Px<Vec<u32>> {
+    let options = SortOptions {
+        descending,
+        nulls_last,
+    };
+    counted_sort::<Brand>(alloc, column, options, Blank::new(1))
+}
+
+#[test]
+fn rows_are_sorted(rt: HostRuntime) -> Result<(), Fail> {
+    let alloc = rt.alloc();
+    let column = null_two_one(alloc)?;
+    assert_eq!(rt;
+        sorted(alloc, &column, false, false)?.as_slice(),
+        [0, 2, 1].as_slice()
+    );
+    assert_eq!(rt;
+        sorted(alloc, &column, true, true)?.as_slice(),
+        [1, 2, 0].as_slice()
+    );
+    assert_eq!(rt;
+        sorted(alloc, &fives(alloc)?, true, false)?.as_slice(),
+        [0, 1, 2].as_slice()
+    );
+    Ok(())
+}
+
+#[test]
+fn lists_are_not_sorted(rt: HostRuntime) -> Result<(), Fail> {
+    let alloc = rt.alloc();
+    let lists = DataType::List(Box::new(alloc, DataType::Int64)?);
+    let column = Column::full_null(alloc, Name::new(alloc, "x")?, 2, lists)?;
+    let refused = sorted(alloc, &column, false, false);
+    assert!(rt; matches!(refused, Err(PxError::InvalidOperation(InvalidWhy::ListKey))));
+    Ok(())
+}

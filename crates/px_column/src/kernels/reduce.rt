@@ -1,16 +1,17 @@
 //! Reductions: all rows of a column become one value.
-ghost use Rattle.std.specs.Prelude.{◌≡◌, ◌+◌, Ok};
+ghost use Rattle.std.specs.Prelude.{◌≡◌, ◌+◌, Ok, Some};
 ghost use Rattle.px_column.specs.Answer.{Answers, AnswersBy};
+ghost use Rattle.px_column.specs.Datum.{list, slots};
 ghost use Rattle.px_column.specs.KindView.{kind_of};
 ghost use Rattle.px_column.specs.Reduction.{count_slot, reduced, reduced_kind, reduced_slot, row_count, unless_list};
 ghost use Rattle.px_column.specs.View.{slot_of};
 
-use crate::column::Column;
+use crate::column::{Column, copy_slots};
 use crate::data_type::DataType;
 use crate::error::{InvalidWhy, Px, PxError};
 use crate::method::GroupByMethod;
 use crate::steps::Steps;
-use crate::value::Value;
+use crate::value::{Value, Values};
 use crate::value_ref::copy_slot;
 use std::alloc::Global;
 use std::sync::ledger::Ledger;
@@ -70,6 +71,14 @@ impl Column {
         }
     }
 
+    /// The list of all rows.
+    fn imploded(&self, alloc: Global) -> Px<Option<Value>>
+        ensures { AnswersBy slot_of result (Ok (Some (list (slots self.now.slots)))) }
+    {
+        let items = copy_slots(alloc, self.rows())?;
+        Ok(Some(Value::List(Values::from_vec(items))))
+    }
+
     /// What all rows become, where that is of the type `dtype`.
     fn reduced(&self, alloc: Global, method: GroupByMethod, dtype: &DataType) -> Px<Option<Value>>
         requires { reduced_kind method self.now.kind ≡ Ok (kind_of dtype.now) }
@@ -83,7 +92,7 @@ impl Column {
             GroupByMethod::Last => copy_slot(alloc, self.slot(self.len().saturating_sub(1))),
             GroupByMethod::NUnique => Ok(count(self.distinct_count(alloc)?)),
             GroupByMethod::Count { include_nulls } => Ok(count(self.row_count(include_nulls))),
-            GroupByMethod::Implode => Ok(Some(Value::List(self.to_values(alloc)?))),
+            GroupByMethod::Implode => self.imploded(alloc),
         }
     }
 

@@ -1,7 +1,5 @@
-use Rattle.std.proofs.Common.{◌≡◌, ◌∙◌, ◌+◌, ◌<◌, ◌≤◌, Bool, true, false, cond, length, take, ap, sym, arith}
-use Rattle.std.proofs.lemmas.List.{take_all, length-map}
+use Rattle.std.proofs.Common.{◌≡◌, ◌∙◌, ◌<◌, ◌≤◌, Bool, true, false, cond, length, ap, arith}
 use Rattle.px_column.specs.Key.{key_at}
-use Rattle.px_column.specs.Reduction.{distinct_slots}
 use Rattle.px_column.specs.Series.{slot_at}
 use Rattle.px_column.proofs.Distinct.{row_of, distinct_row}
 use Rattle.px_column.proofs.column.Column.distinct_count.Goals as goal
