@@ -6,6 +6,8 @@ mod expr;
 mod function;
 mod literal;
 mod naming;
+#[cfg(test)]
+mod tests;
 mod typing;
 mod window;
 
