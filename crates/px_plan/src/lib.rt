@@ -13,6 +13,8 @@ mod naming;
 mod node;
 mod rebuilding;
 mod scalar;
+#[cfg(test)]
+mod tests;
 mod typing;
 mod window;
 

@@ -27,17 +27,17 @@ use px_frame::Schema;
 use std::alloc::Global;
 use typed::Typed;
 
-/// The type of an expression's values over a schema, in a context (polars `AExpr::get_dtype`). The first
-/// refusal is answered: the inputs' from left to right, then the expression's own. A window's function
-/// stands on groups, its keys and its order on the frame.
+/// The type of an expression's values over a schema, in a context (polars `AExpr::get_dtype`). The
+/// first refusal is answered: the inputs' from left to right, then the expression's own. A window's
+/// function stands on groups, its keys and its order on the frame.
 ///
 /// On groups alone: `AggAboveImplode` where a reduction, a slice or a null count has an Implode below
-/// it, `AggLiteral` and `AggScalar` where a reduction has nothing but literals or one value below it,
-/// `ScalarOnGroups` where rows are chosen or moved in one value that is not made of literals, and
-/// `WindowOnGroups`. Everywhere: `ColumnNotFound`, `SchemaMismatch` where a predicate or a mask is not
-/// Boolean, `SingleIndex` where one row is asked for by several places, `NoKey` for a window without
-/// keys, `ListKey` where lists are compared, `RangeType`, and `Types` for all other types or numbers of
-/// inputs.
+/// it, `AggLiteral` and `AggScalar` where a reduction has nothing but literals or one value below
+/// it, `ScalarOnGroups` where rows are chosen or moved in one value that is not made of literals,
+/// and `WindowOnGroups`. Everywhere: `ColumnNotFound`, `SchemaMismatch` where a predicate or a mask
+/// is not Boolean, `SingleIndex` where one row is asked for by several places, `NoKey` for a window
+/// without keys, `ListKey` where lists are compared, `RangeType`, and `Types` for all other types or
+/// numbers of inputs.
 pub fn type_of(alloc: Global, expr: &Expr, scope: &Schema, context: Context) -> Px<DataType>
     ensures { AnswersBy kind_of result (type_of (tree expr.now) scope.now context) }
 {
@@ -45,8 +45,8 @@ pub fn type_of(alloc: Global, expr: &Expr, scope: &Schema, context: Context) -> 
     Ok(typed.dtype)
 }
 
-/// The type of an expression on groups. Groups refuse more than the frame and give no other type: with
-/// a type on groups an expression has it on the frame too, over every schema.
+/// The type of an expression on groups. Groups refuse more than the frame and give no other type:
+/// with a type on groups an expression has it on the frame too, over every schema.
 pub fn type_on_groups(alloc: Global, expr: &Expr, scope: &Schema) -> Px<DataType>
     ensures answer { AnswersBy kind_of result (type_of (tree expr.now) scope.now Aggregation) }
     ensures refuses_more { IsRefusedMoreOnGroups (tree expr.now) }

@@ -190,7 +190,8 @@ fn unless_list(is_list: bool, dtype: DataType) -> Px<DataType>
     }
 }
 
-/// The type of a reduction: `ListKey` where lists are compared, `Types` where values cannot be summed.
+/// The type of a reduction: `ListKey` where lists are compared, `Types` where values cannot be
+/// summed.
 pub(crate) fn reduced_type(alloc: Global, method: GroupByMethod, dtype: DataType) -> Px<DataType>
     ensures { AnswersBy kind_of result (reduced_kind method (kind_of dtype)) }
 {
