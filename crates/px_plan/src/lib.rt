@@ -9,9 +9,12 @@ mod expr_ir;
 mod function;
 mod leaves;
 mod literal;
+mod lowering;
 mod node;
 mod rebuilding;
 mod scalar;
+#[cfg(test)]
+mod tests;
 mod window;
 
 pub use arena::Arena;
@@ -21,6 +24,7 @@ pub use expr_ir::ExprIR;
 pub use function::FunctionExpr;
 pub use leaves::aexpr_to_leaf_names;
 pub use literal::LiteralValue;
+pub use lowering::to_arena;
 pub use node::{AExpr, IRAggExpr, Node};
 pub use rebuilding::node_to_expr;
 pub use scalar::is_scalar_ae;
