@@ -24,12 +24,15 @@ pub and_right : (a b : Bool) → (a && b) ≡ true → b ≡ true
 and_right true b h = h
 and_right false b h = absurd (cc h)
 
-pub trees_same : (n : ℕ) (ts us : List Tree) (es : List Node) → Agree n ts us → all_below n es ≡ true → trees_at us es ≡ trees_at ts es
-trees_same n ts us [] h b = refl
-trees_same n ts us (e ∷ es) h b =
+pub places_same : (n : ℕ) (ts us : List Tree) (es : List Node) → Agree n ts us → all_below n es ≡ true → map (tree_at us) es ≡ map (tree_at ts) es
+places_same n ts us [] h b = refl
+places_same n ts us (e ∷ es) h b =
     let first = h e (and_left (is_below n e) (all_below n es) b) in
-    let rest = trees_same n ts us es h (and_right (is_below n e) (all_below n es) b) in
+    let rest = places_same n ts us es h (and_right (is_below n e) (all_below n es) b) in
     cc
+
+pub trees_same : (n : ℕ) (ts us : List Tree) (es : List Node) → Agree n ts us → all_below n es ≡ true → trees_at us es ≡ trees_at ts es
+trees_same n ts us es h b = ap trees_of (places_same n ts us es h b)
 
 pub order_same : (n : ℕ) (ts us : List Tree) (o : Option (Node × SortOptions)) → Agree n ts us → order_below n o ≡ true → order_at us o ≡ order_at ts o
 order_same n ts us None h b = refl

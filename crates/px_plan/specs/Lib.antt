@@ -17,3 +17,4 @@ pub mod TreeCode
 pub mod Arena
 pub mod Parts
 pub mod Named
+pub mod Adding

@@ -56,6 +56,24 @@ abbrev mutual
   order_postorder no_order = []
   order_postorder (ordered t options) = postorder t
 
+-- those of a tree's children
+abbrev pub children_postorder : Tree → List Tree
+children_postorder (column n) = []
+children_postorder (literal v) = []
+children_postorder (alias e n) = postorder e
+children_postorder (binary l op r) = postorder l ++ postorder r
+children_postorder (ternary p a b) = postorder p ++ (postorder a ++ postorder b)
+children_postorder (cast e k options) = postorder e
+children_postorder (function es f) = all_postorder es
+children_postorder (filter e by) = postorder e ++ postorder by
+children_postorder (slice e offset length) = postorder e ++ (postorder offset ++ postorder length)
+children_postorder (gather e idx one) = postorder e ++ postorder idx
+children_postorder (sort e options) = postorder e
+children_postorder (sort_by e by options) = postorder e ++ all_postorder by
+children_postorder (agg m e) = postorder e
+children_postorder len = []
+children_postorder (window f keys order mapping) = postorder f ++ (all_postorder keys ++ order_postorder order)
+
 -- the names of the columns that are a tree's leaves, from left to right, with repeats
 abbrev mutual
   pub leaf_names : Tree → List (List ℕ)
