@@ -41,11 +41,11 @@ missing_stays n fields s h m = by (is_field_name s.name fields)
 
 beside_there : (n : List ℕ) (fields : List FieldKind) (external : List Series) (f : FieldKind) → find (has_field_name n) fields ≡ None → find (has_field_name n) (fold with_field fields external) ≡ Some f → There (look n external)
 beside_there n fields [] f h e = cc
-beside_there n fields (s ∷ external) f h e = by (has_name n s) refl
+beside_there n fields (s ∷ external) f h e = by (has_name n s) refl (λ m. beside_there n (with_field fields s) external f (missing_stays n fields s h m) e)
   where
-    by : (b : Bool) → has_name n s ≡ b → There (cond b (Some s) (look n external))
-    by true m = (s, refl)
-    by false m = beside_there n (with_field fields s) external f (missing_stays n fields s h m) e
+    by : (b : Bool) → has_name n s ≡ b → (has_name n s ≡ false → There (look n external)) → There (cond b (Some s) (look n external))
+    by true m rest = (s, refl)
+    by false m rest = rest m
 
 field_look : (n : List ℕ) (columns : List Series) → find (has_field_name n) (map column_field columns) ≡ option_map column_field (look n columns)
 field_look n [] = refl
