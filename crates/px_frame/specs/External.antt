@@ -37,5 +37,5 @@ external_at n rows s = if length s.slots == n then series_at rows s else s
 abbrev pub rows_of_frame : Frame → List ℕ → Frame
 rows_of_frame frame rows = record {
   columns = map (series_at rows) frame.columns;
-  external = map (external_at (height frame) rows) frame.external
+  external = map (external_at (height frame) rows) frame.external;
 }

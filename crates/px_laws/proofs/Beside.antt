@@ -170,8 +170,8 @@ mutual
       let s = split cs (leaf_names f) (all_leaf_names keys ++ order_leaf_names order) h in
       let t = split cs (all_leaf_names keys) (order_leaf_names order) s.1 in
       λ i. window_parts (named_same keys cs a b t.0 i) (order_same order cs a b t.1 i) (beside cs a)
-          >>= λ found. whole_window mapping (beside cs a) found (λ parts. each_same (λ p. made (outcome_on f (rows_of_frame (beside cs a) p))) (λ p. made (outcome_on f (rows_of_frame (beside cs b) p))) parts
-          (λ p. ap made (outcome_same f (map (series_at p) cs) (map (external_at (height_of cs) p) a) (map (external_at (height_of cs) p) b) (columns_at cs p (leaf_names f) ∙ s.0))) i)
+      >>= λ found. whole_window mapping (beside cs a) found (λ parts. each_same (λ p. made (outcome_on f (rows_of_frame (beside cs a) p))) (λ p. made (outcome_on f (rows_of_frame (beside cs b) p))) parts
+      (λ p. ap made (outcome_same f (map (series_at p) cs) (map (external_at (height_of cs) p) a) (map (external_at (height_of cs) p) b) (columns_at cs p (leaf_names f) ∙ s.0))) i)
 
   cells_same : (es : Trees) (cs a b : List Series) → are_columns_of cs (all_leaf_names es) ≡ true → cells_on es (beside cs a) ≡ cells_on es (beside cs b)
   cells_same no_trees cs a b h = refl

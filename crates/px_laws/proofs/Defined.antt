@@ -35,6 +35,7 @@ missing_stays n fields s h m = by (is_field_name s.name fields)
             → cond b (Some f) (find (has_field_name n) (fs ++ column_field s ∷ [])) ≡ None
         step true h rest = cc
         step false h rest = rest h
+
     by : (b : Bool) → find (has_field_name n) (cond b fields (fields ++ column_field s ∷ [])) ≡ None
     by true = h
     by false = at_end fields h

@@ -9,7 +9,7 @@ use Rattle.px_frame.specs.Spread.{NamedCell, spread_all}
 use Rattle.px_plan.specs.Nodes.{nodes_of}
 use Rattle.px_plan.specs.Partition.{is_row_function}
 use Rattle.px_plan.specs.Shape.{is_single}
-use Rattle.px_plan.specs.Tree.{Tree, Trees, Order, no_trees, one_tree, no_order, ordered, column, literal, alias, binary, ternary, cast, function, filter, slice, gather, sort, sort_by, agg, len, window}
+use Rattle.px_plan.specs.Tree.{Tree, Trees, Order, no_trees, one_tree, no_order, ordered, column, literal, alias, binary, ternary, cast, function, filter, slice, gather, sort, sort_by, agg, window}
 use Rattle.px_plan.specs.Value.{named_on, order_on, parts_on}
 use Rattle.px_plan.specs.Window.{OrderCell, order_column}
 

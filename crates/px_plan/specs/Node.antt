@@ -1,10 +1,9 @@
 -- What one node makes of its inputs' cells: a cell, or the node's own fault.
 use Rattle.std.specs.Prelude.{ℕ, ◌+◌, ◌-◌, ℤ, pos, negsuc, ◌+ℤ◌, ◌-ℤ◌, Bool, true, false, ◌&&◌, not, List, [], ◌∷◌, Option, Some, None, Result, Ok, Err, length, map, filter, reverse, nat_lt, if◌then◌else◌}
 use Rattle.std.specs.List.{list_all, range_with_len, zip}
-
 use Rattle.px_column.specs.Cast.{cast_slot, cast_slots}
 use Rattle.px_column.specs.Column.{null_count}
-use Rattle.px_column.specs.Datum.{Datum, boolean, integer, Slot}
+use Rattle.px_column.specs.Datum.{boolean, integer, Slot}
 use Rattle.px_column.specs.Function.{is_null_slot, is_not_null_slot, not_slot, between_slot, in_slot, shifted, present_slots, exploded, window_of}
 use Rattle.px_column.specs.Kind.{Kind, fits}
 use Rattle.px_column.specs.Operator.{operated}

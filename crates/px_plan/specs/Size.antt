@@ -1,5 +1,5 @@
 -- How many values an expression and the expressions in it have, over several frames together.
-use Rattle.std.specs.Prelude.{ℕ, ◌+◌, List, [], ◌∷◌, max, sum, map}
+use Rattle.std.specs.Prelude.{ℕ, List, max, sum, map}
 use Rattle.std.specs.List.{flat_map}
 use Rattle.std.specs.Option.{option_map_or}
 use Rattle.px_frame.specs.Cell.{count_of}

@@ -13,16 +13,15 @@ use Rattle.px_column.specs.declared.error.PxError.TheVariants.{ColumnNotFound, I
 use Rattle.px_column.specs.declared.error.InvalidWhy.TheVariants.{WindowOnGroups, AggAboveImplode, ScalarOnGroups, ListKey, RangeType, Types}
 use Rattle.px_column.specs.declared.error.ComputeWhy.TheVariants.{AggLiteral, AggScalar, SingleIndex, NoKey}
 use Rattle.px_column.specs.declared.method.GroupByMethod.{GroupByMethod}
-use Rattle.px_column.specs.declared.method.GroupByMethod.TheVariants.{Implode}
 use Rattle.px_frame.specs.Schema.{FieldKind, has_field_name}
-use Rattle.px_plan.specs.Shape.{is_unit, is_unit_first, is_literal_tree, has_implode, have_implode, is_implode}
+use Rattle.px_plan.specs.Shape.{is_unit, is_literal_tree, has_implode, have_implode, is_implode}
 use Rattle.px_plan.specs.Tree.{Tree, Trees, Order, Literal, single, range, series, no_trees, one_tree, no_order, ordered, column, literal, alias, binary, ternary, cast, function, filter, slice, gather, sort, sort_by, agg, len, window}
 use Rattle.px_plan.specs.declared.context.Context.{Context}
 use Rattle.px_plan.specs.declared.context.Context.TheVariants.{Default, Aggregation}
 use Rattle.px_plan.specs.declared.function.FunctionExpr.{FunctionExpr}
 use Rattle.px_plan.specs.declared.function.FunctionExpr.TheVariants.{IsNull, IsNotNull, Not, IsBetween, IsIn, Reverse, Shift, DropNulls, NullCount, Explode}
 use Rattle.px_plan.specs.declared.window.WindowMapping.{WindowMapping}
-use Rattle.px_plan.specs.declared.window.WindowMapping.TheVariants.{GroupsToRows, Join}
+use Rattle.px_plan.specs.declared.window.WindowMapping.TheVariants.{Join}
 
 -- the names and types that an expression is typed over
 abbrev pub Scope : Type 0

@@ -6,9 +6,7 @@ use Rattle.std.specs.Result.{result_ok}
 use Rattle.px_column.specs.Kind.{Kind, nulls}
 use Rattle.px_column.specs.Option.{◌>>=◌, each}
 use Rattle.px_column.specs.Reduction.{count_slot}
-use Rattle.px_column.specs.Series.{Series}
 use Rattle.px_column.specs.declared.error.PxError.{PxError}
-use Rattle.px_column.specs.declared.sort_options.SortOptions.{SortOptions}
 use Rattle.px_frame.specs.Cell.{Cell, unit, rows}
 use Rattle.px_frame.specs.External.{Frame, height, look_in, scope_of, rows_of_frame}
 use Rattle.px_frame.specs.Frame.{look, has_height}

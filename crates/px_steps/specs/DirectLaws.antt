@@ -102,6 +102,7 @@ sum_refused n frame = by (look n frame) refl
     typed : (s : Series) → look n frame ≡ Some s → (o : Option Kind) → sum_kind s.kind ≡ o → plain.agg_refusals (alone frame) (agg Sum (column n)) ≡ direct.agg_refusals frame (agg Sum (column n))
     typed s e None h = rw (kind_found n frame s e, e, h) refl
     typed s e (Some k) h = rw (kind_found n frame s e, e, h) refl
+
     by : (o : Option Series) → look n frame ≡ o → plain.agg_refusals (alone frame) (agg Sum (column n)) ≡ direct.agg_refusals frame (agg Sum (column n))
     by None e = rw (kind_missing n frame e, e) refl
     by (Some s) e = typed s e (sum_kind s.kind) refl
@@ -126,12 +127,14 @@ sum_same n frame parts = by (look n frame) refl
     part s k e h p =
         let there : look n (subframe frame p) ≡ Some (series_at p s) = look-at n frame p ∙ ap (option_map (series_at p)) e in
         rw (there, kind_found n (subframe frame p) (series_at p s) there, h) refl
+
     typed : (s : Series) → look n frame ≡ Some s → (o : Option Kind) → sum_kind s.kind ≡ o → plain.aggregated_on (alone frame) parts (agg Sum (column n)) ≡ direct.aggregated_on frame parts (agg Sum (column n))
     typed s e None h = rw (kind_found n frame s e, e, h) refl
     typed s e (Some k) h =
         let values : each (plain.value_on_part (alone frame) (agg Sum (column n))) parts ≡ Some (map (direct.value_on_part frame (agg Sum (column n))) parts)
-            = each_some (plain.value_on_part (alone frame) (agg Sum (column n))) (direct.value_on_part frame (agg Sum (column n))) parts (part s k e h) in
+        = each_some (plain.value_on_part (alone frame) (agg Sum (column n))) (direct.value_on_part frame (agg Sum (column n))) parts (part s k e h) in
         rw (values, kind_found n frame s e, e, h) refl
+
     by : (o : Option Series) → look n frame ≡ o → plain.aggregated_on (alone frame) parts (agg Sum (column n)) ≡ direct.aggregated_on frame parts (agg Sum (column n))
     by None e = rw (kind_missing n frame e, e) refl
     by (Some s) e = typed s e (sum_kind s.kind) refl
@@ -139,7 +142,7 @@ sum_same n frame parts = by (look n frame) refl
 len_same : (frame : List Series) (parts : List (List ℕ)) → plain.aggregated_on (alone frame) parts len ≡ direct.aggregated_on frame parts len
 len_same frame parts =
     let values : each (plain.value_on_part (alone frame) len) parts ≡ Some (map (direct.value_on_part frame len) parts)
-        = each_some (plain.value_on_part (alone frame) len) (direct.value_on_part frame len) parts (λ p. refl) in
+    = each_some (plain.value_on_part (alone frame) len) (direct.value_on_part frame len) parts (λ p. refl) in
     rw values refl
 
 -- the expressions of a built step
@@ -189,20 +192,20 @@ pub refusal_same : (s : PlainStep) (frame : List Series) → is_built s ≡ true
 refusal_same (group keys aggs None) frame b =
     let built = all_and (list_all is_built_key keys) (list_all is_built_agg aggs) b in
     let k : flat_map (plain.key_refusals (alone frame)) keys ≡ flat_map (direct.key_refusals frame) keys
-        = flat_same is_built_key _ _ keys (key_is (plain.key_refusals (alone frame)) (direct.key_refusals frame) (λ n. key_refused n frame)) built.0 in
+    = flat_same is_built_key _ _ keys (key_is (plain.key_refusals (alone frame)) (direct.key_refusals frame) (λ n. key_refused n frame)) built.0 in
     let a : flat_map (plain.agg_refusals (alone frame)) aggs ≡ flat_map (direct.agg_refusals frame) aggs
-        = flat_same is_built_agg _ _ aggs (agg_is (plain.agg_refusals (alone frame)) (direct.agg_refusals frame) (λ n. sum_refused n frame) refl) built.1 in
+    = flat_same is_built_agg _ _ aggs (agg_is (plain.agg_refusals (alone frame)) (direct.agg_refusals frame) (λ n. sum_refused n frame) refl) built.1 in
     let r : plain.repeat_refusal (keys ++ aggs) ≡ direct.repeat_refusal (first_repeat [] (map name_of keys ++ map name_of aggs))
-        = ap (λ ns. option_map_or (λ n. Duplicate n ∷ []) (first_repeat [] ns) []) (map-append name_of keys aggs) ∙ repeat_same (first_repeat [] (map name_of keys ++ map name_of aggs)) in
+    = ap (λ ns. option_map_or (λ n. Duplicate n ∷ []) (first_repeat [] ns) []) (map-append name_of keys aggs) ∙ repeat_same (first_repeat [] (map name_of keys ++ map name_of aggs)) in
     let K = flat_map (direct.key_refusals frame) keys in
     let A = flat_map (direct.agg_refusals frame) aggs in
     let R = direct.repeat_refusal (first_repeat [] (map name_of keys ++ map name_of aggs)) in
     let N = plain.no_key_refusal keys in
     let inner : first_of (direct.first_of_two (K ++ A) R) ≡ first_of ((K ++ A) ++ R) = first_or (K ++ A) R in
     let whole : first_of (direct.first_of_two N (direct.first_of_two (K ++ A) R)) ≡ first_of (N ++ ((K ++ A) ++ R))
-        = first_or N (direct.first_of_two (K ++ A) R) ∙ first_after N (direct.first_of_two (K ++ A) R) ((K ++ A) ++ R) inner in
+    = first_or N (direct.first_of_two (K ++ A) R) ∙ first_after N (direct.first_of_two (K ++ A) R) ((K ++ A) ++ R) inner in
     let joined : (((N ++ K) ++ A) ++ R) ++ [] ≡ N ++ ((K ++ A) ++ R)
-        = append_nil (((N ++ K) ++ A) ++ R) ∙ ap (λ (es : List PxError). es ++ R) (append_assoc N K A) ∙ append_assoc N (K ++ A) R in
+    = append_nil (((N ++ K) ++ A) ++ R) ∙ ap (λ (es : List PxError). es ++ R) (append_assoc N K A) ∙ append_assoc N (K ++ A) R in
     rw (k, a, r) (ap first_of joined ∙ sym whole)
 refusal_same _ frame b = cc
 
@@ -215,7 +218,7 @@ pub columns_same : (s : PlainStep) (frame : List Series) → is_built s ≡ true
 columns_same (group keys aggs None) frame b is =
     let built = all_and (list_all is_built_key keys) (list_all is_built_agg aggs) b in
     let k : each (plain.key_on (alone frame)) keys ≡ each (direct.key_on frame) keys
-        = each_same is_built_key _ _ keys (key_is (plain.key_on (alone frame)) (direct.key_on frame) (λ n. key_same n frame is)) built.0 in
+    = each_same is_built_key _ _ keys (key_is (plain.key_on (alone frame)) (direct.key_on frame) (λ n. key_same n frame is)) built.0 in
     rw k (by built.1 (each (direct.key_on frame) keys))
   where
     by : list_all is_built_agg aggs ≡ true → (o : Option (List Series)) → (o >>= plain.columns_on (alone frame) aggs) ≡ option_and_then (λ keyed. direct.columns_on frame keyed aggs) o
@@ -223,6 +226,6 @@ columns_same (group keys aggs None) frame b is =
     by h (Some keyed) =
         let ps = parts_of keyed (height_of frame) in
         let a : each (plain.aggregated_on (alone frame) ps) aggs ≡ each (direct.aggregated_on frame ps) aggs
-            = each_same is_built_agg _ _ aggs (agg_is (plain.aggregated_on (alone frame) ps) (direct.aggregated_on frame ps) (λ n. sum_same n frame ps) (len_same frame ps)) h in
+        = each_same is_built_agg _ _ aggs (agg_is (plain.aggregated_on (alone frame) ps) (direct.aggregated_on frame ps) (λ n. sum_same n frame ps) (len_same frame ps)) h in
         rw a (front_same (map (key_values ps) keyed) (each (direct.aggregated_on frame ps) aggs))
 columns_same _ frame b is = cc

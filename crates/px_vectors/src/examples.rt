@@ -53,7 +53,7 @@ pub fn group_examples()
     // Each group takes the row that its own index names.
     ensures own_index { columns_made (by_key k (gather x (first_of (column (codes "i"))) true ∷ []))
         (alone (column_of (codes "k") int64s (nums (1 ∷ 1 ∷ 1 ∷ 2 ∷ 2 ∷ [])) ∷ column_of (codes "x") int64s (nums (10 ∷ 20 ∷ 30 ∷ 40 ∷ 50 ∷ []))
-            ∷ column_of (codes "i") int64s (nums (2 ∷ 2 ∷ 2 ∷ 0 ∷ 0 ∷ [])) ∷ []))
+        ∷ column_of (codes "i") int64s (nums (2 ∷ 2 ∷ 2 ∷ 0 ∷ 0 ∷ [])) ∷ []))
         ≡ Some (column_of (codes "k") int64s (nums (1 ∷ 2 ∷ [])) ∷ column_of (codes "x") int64s (nums (30 ∷ 40 ∷ [])) ∷ []) }
     ensures index_past_end { step_faults (by_key k (gather x (int 2) true ∷ []))
         (alone (column_of (codes "k") int64s (nums (1 ∷ 1 ∷ 1 ∷ 2 ∷ 2 ∷ [])) ∷ column_of (codes "x") int64s (nums (10 ∷ 20 ∷ 30 ∷ 40 ∷ 50 ∷ [])) ∷ []))
@@ -62,7 +62,7 @@ pub fn group_examples()
         ≡ Some (column_of (codes "k") int64s (nums (7 ∷ 9 ∷ [])) ∷ column_of (codes "x") int64s (nums (3 ∷ 1 ∷ [])) ∷ []) }
     ensures among { columns_made (by_key k (function (one_tree x (one_tree (literal (series (column_of (codes "s") int64s (nums (0 ∷ 1 ∷ 3 ∷ []))))) no_trees)) IsIn ∷ [])) four
         ≡ Some (column_of (codes "k") int64s (nums (7 ∷ 9 ∷ []))
-            ∷ column_of (codes "x") (lists booleans) (Some (list (slots (truth true ∷ truth false ∷ truth true ∷ []))) ∷ Some (list (slots (truth true ∷ []))) ∷ []) ∷ []) }
+        ∷ column_of (codes "x") (lists booleans) (Some (list (slots (truth true ∷ truth false ∷ truth true ∷ []))) ∷ Some (list (slots (truth true ∷ []))) ∷ []) ∷ []) }
     ensures by_no_key { columns_made (by_key k (sort_by x no_trees (record { descending = []; nulls_last = [] }) ∷ [])) four
         ≡ Some (column_of (codes "k") int64s (nums (7 ∷ 9 ∷ [])) ∷ column_of (codes "x") (lists int64s) (numbers (0 ∷ 2 ∷ 3 ∷ []) ∷ numbers (1 ∷ []) ∷ []) ∷ []) }
     // All rows from the second on.
@@ -85,7 +85,7 @@ pub fn select_examples()
     ensures no_integers { columns_made (select (literal (range (pos 3) (pos 3) int64s) ∷ [])) four ≡ Some (column_of (codes "literal") int64s [] ∷ []) }
     ensures report { plain_on sales_report sales
         ≡ Some (alone (column_of (codes "region") strings (word (codes "north") ∷ word (codes "south") ∷ []) ∷ column_of (codes "total") int64s (nums (120 ∷ 60 ∷ []))
-            ∷ column_of (codes "top") int64s (nums (50 ∷ 60 ∷ [])) ∷ column_of (codes "len") uint32s (nums (3 ∷ 1 ∷ [])) ∷ [])) }
+        ∷ column_of (codes "top") int64s (nums (50 ∷ 60 ∷ [])) ∷ column_of (codes "len") uint32s (nums (3 ∷ 1 ∷ [])) ∷ [])) }
     ensures external { columns_made (select (binary (column (codes "e")) Plus x ∷ [])) (record four { external = column_of (codes "e") int64s (nums (5 ∷ 6 ∷ 7 ∷ 8 ∷ [])) ∷ [] })
         ≡ Some (column_of (codes "e") int64s (nums (5 ∷ 7 ∷ 9 ∷ 11 ∷ [])) ∷ []) }
     // After a filter the frame has another height than the column beside it.

@@ -1,18 +1,14 @@
-use Rattle.std.proofs.Common.{◌≡◌, ◌+◌, ◌<◌, ◌++◌, length, map, take, Option, Ok, ap, ◌∙◌, arith, rules}
-use Rattle.std.specs.declared.alloc.Global.{Global}
-use Rattle.std.specs.declared.boxed.Box.{Box}
-use Rattle.px_column.specs.declared.sort_options.SortOptions.{SortOptions}
+use Rattle.std.proofs.Common.{◌≡◌, ◌<◌, ◌++◌, length, map, Ok, ap, ◌∙◌, arith}
 use Rattle.std.proofs.lemmas.Grind.{common_steps}
 use Rattle.px_column.specs.declared.error.PxError.{PxError}
-use Rattle.px_plan.proofs.Adding.{OnErr-of, AddsFront-more, AddsFront-after, added-length, all_added-length, added_twice, added_thrice, kept, kept_all, kept_last, last_below, longer, window_below, made_of_two, made_of_three, made_with_list, made_with_order, all_below_later, all_below_push, postorder-children, seen_postorder, seen_rest, seen_part, more_part, placed}
+use Rattle.px_plan.proofs.Adding.{OnErr-of, AddsFront-more, AddsFront-after, added_twice, added_thrice, kept, kept_all, kept_last, last_below, longer, window_below, made_of_two, made_of_three, made_with_list, made_with_order, all_below_later, all_below_push, postorder-children, seen_postorder, seen_rest, seen_part, more_part, placed}
 use Rattle.px_plan.proofs.Shapes.{tree-BinaryExpr, tree-Ternary, tree-Filter, tree-Slice, tree-Gather, tree-SortBy, tree-Window}
 use Rattle.px_plan.proofs.Views.{trees_is}
 use Rattle.px_plan.specs.Adding.{AddsFront}
-use Rattle.px_plan.specs.Nodes.{nodes_of, all_nodes_of, order_nodes_of, postorder, all_postorder, order_postorder, children_postorder}
+use Rattle.px_plan.specs.Nodes.{postorder, all_postorder, order_postorder, children_postorder}
 use Rattle.px_plan.specs.Parts.{order_of}
 use Rattle.px_plan.specs.Tree.{Tree, Trees, Order, trees_of, binary, ternary, filter, slice, gather, sort_by, window}
 use Rattle.px_plan.specs.View.{tree, trees, mapping_of}
-use Rattle.px_plan.specs.declared.expr.Expr.{Expr}
 use Rattle.px_plan.proofs.lowering.+to_arena.Goals as goal
 
 pub children_to_arena-returns-in_err-left-in-BinaryExpr-clause-part : goal.children_to_arena-returns-in_err-left-in-BinaryExpr-clause-part

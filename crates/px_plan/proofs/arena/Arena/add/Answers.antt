@@ -1,4 +1,3 @@
-use Rattle.std.proofs.Common.{arith, length-append}
 use Rattle.px_plan.proofs.Trees.{trees_in-length, IsArena-more}
 use Rattle.px_plan.proofs.arena.Arena.add.Goals as goal
 
