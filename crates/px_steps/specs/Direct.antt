@@ -5,17 +5,16 @@ use Rattle.std.specs.List.{flat_map}
 use Rattle.std.specs.Option.{option_map_or}
 use Rattle.px_column.specs.Datum.{integer, Slot}
 use Rattle.px_column.specs.Kind.{Kind, lists, uint32s}
-use Rattle.px_column.specs.Series.{Series, slot_at}
+use Rattle.px_column.specs.Series.{Series}
 use Rattle.px_column.specs.Sum.{sum_kind, summed}
 use Rattle.px_column.specs.declared.error.PxError.{PxError}
 use Rattle.px_column.specs.declared.error.PxError.TheVariants.{ColumnNotFound, Duplicate, InvalidOperation, ComputeError}
 use Rattle.px_column.specs.declared.error.InvalidWhy.TheVariants.{ListKey, Types}
-use Rattle.px_column.specs.declared.error.ComputeWhy.TheVariants.{AggScalar, NoKey}
+use Rattle.px_column.specs.declared.error.ComputeWhy.TheVariants.{AggScalar}
 use Rattle.px_column.specs.declared.method.GroupByMethod.{GroupByMethod}
 use Rattle.px_column.specs.declared.method.GroupByMethod.TheVariants.{Sum}
 use Rattle.px_frame.specs.Cell.{Cell, unit, rows, list_of, value_of_cell}
 use Rattle.px_frame.specs.Frame.{look, height_of, subframe, first_repeat}
-use Rattle.px_frame.specs.Groups.{first_row}
 use Rattle.px_frame.specs.Parts.{parts_of}
 use Rattle.px_plan.specs.Shape.{is_unit, name_of}
 use Rattle.px_plan.specs.Tree.{Tree, column, agg, len}

@@ -5,6 +5,8 @@ pub mod Memory
 pub mod Form
 pub mod Step
 pub mod Document
+pub mod ExprForm
+pub mod StepForm
 pub mod Fault
 pub mod Plain
 pub mod Direct

@@ -1,10 +1,10 @@
 -- What steps mean on plain frames, why they are refused, and the faults of their values.
-use Rattle.std.specs.Prelude.{◌≡◌, ℕ, ◌^◌, ◌<◌, Bool, not, ◌==◌, List, [], ◌∷◌, ◌++◌, Option, Some, None, Result, Ok, Err, length, map, max, sum, option_map, if◌then◌else◌}
-use Rattle.std.specs.List.{flat_map, filter_map, list_any, list_all}
+use Rattle.std.specs.Prelude.{◌≡◌, ℕ, ◌^◌, ◌<◌, not, ◌==◌, List, [], ◌∷◌, ◌++◌, Option, Some, None, Result, Ok, Err, map, max, sum, option_map, if◌then◌else◌}
+use Rattle.std.specs.List.{flat_map, filter_map, list_any}
 use Rattle.std.specs.Option.{option_map_or, option_or}
 use Rattle.std.specs.Result.{result_ok}
 use Rattle.px_column.specs.Datum.{Slot}
-use Rattle.px_column.specs.Kind.{Kind, lists, is_list_kind}
+use Rattle.px_column.specs.Kind.{Kind, lists}
 use Rattle.px_column.specs.Operator.{is_boolean_kind}
 use Rattle.px_column.specs.Option.{◌>>=◌, each}
 use Rattle.px_column.specs.Series.{Series, slot_at}
@@ -23,7 +23,7 @@ use Rattle.px_plan.specs.Partition.{is_elementwise, is_partition_safe}
 use Rattle.px_plan.specs.Shape.{is_unit, name_of}
 use Rattle.px_plan.specs.Size.{size_on}
 use Rattle.px_plan.specs.Tree.{Tree}
-use Rattle.px_plan.specs.Typing.{Scope, kind_in, refusals_of, refused_where, fails, not_list}
+use Rattle.px_plan.specs.Typing.{kind_in, refusals_of, refused_where, fails, not_list}
 use Rattle.px_plan.specs.Value.{value_on, named, faults_on, has_misfit}
 use Rattle.px_plan.specs.declared.context.Context.TheVariants.{Default, Aggregation}
 use Rattle.px_steps.specs.Step.{PlainStep, select, filter, group}

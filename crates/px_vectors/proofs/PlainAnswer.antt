@@ -11,7 +11,7 @@ use Rattle.px_plan.specs.Shape.{name_of}
 use Rattle.px_steps.specs.Direct.{first_of_two, agg_refusals, aggregated_on, columns_on, key_on, key_refusals, repeat_refusal, step_on, step_refusals}
 use Rattle.px_plan.specs.Tree.{Tree, column}
 use Rattle.px_column.specs.Option.{each}
-use Rattle.px_steps.specs.Plain.{first_of, key_values, no_key_refusal}
+use Rattle.px_steps.specs.Plain.{key_values, no_key_refusal}
 use Rattle.px_steps.specs.Step.{group}
 use Rattle.px_vectors.specs.PlainStep.{Makes}
 use Rattle.px_vectors.proofs.PlainNames.{made_names, made_even}

@@ -1,5 +1,5 @@
 -- What a group step by columns answers, told among all steps.
-use Rattle.std.proofs.Common.{◌≡◌, ℕ, true, ◌&&◌, List, [], ◌∷◌, Option, Some, None, Result, Ok, Err, map, refl, sym, ◌∙◌, ap}
+use Rattle.std.proofs.Common.{◌≡◌, ℕ, true, ◌&&◌, List, [], ◌∷◌, Option, None, Result, Ok, Err, map, refl, ◌∙◌, ap}
 use Rattle.std.specs.List.{list_all}
 use Rattle.px_column.specs.Series.{Series}
 use Rattle.px_column.specs.declared.error.PxError.{PxError}

@@ -1,23 +1,21 @@
 -- Frames, expressions and steps of every kind, of which the examples speak.
-use Rattle.std.specs.Prelude.{ℕ, ℤ, pos, Bool, true, false, List, [], ◌∷◌, Option, Some, None, codes, map}
-use Rattle.px_column.specs.Datum.{Datum, boolean, integer, text, list, Slot, slots}
-use Rattle.px_column.specs.Kind.{Kind, booleans, int32s, int64s, uint8s, uint32s, strings, nulls, lists}
+use Rattle.std.specs.Prelude.{ℕ, zero, suc, negsuc, Bool, true, false, List, [], ◌∷◌, Option, Some, None, codes, map}
+use Rattle.px_column.specs.Datum.{boolean, integer, text, list, Slot, slots}
+use Rattle.px_column.specs.Kind.{Kind, int32s, int64s, strings, nulls}
 use Rattle.px_column.specs.Series.{Series}
-use Rattle.px_column.specs.declared.cast_options.CastOptions.{CastOptions}
 use Rattle.px_column.specs.declared.cast_options.CastOptions.TheVariants.{Strict}
 use Rattle.px_column.specs.declared.error.PxError.{PxError}
 use Rattle.px_column.specs.declared.error.PxError.TheVariants.{InvalidOperation, ComputeError}
 use Rattle.px_column.specs.declared.error.InvalidWhy.{InvalidWhy}
 use Rattle.px_column.specs.declared.error.ComputeWhy.{ComputeWhy}
 use Rattle.px_column.specs.declared.method.GroupByMethod.TheVariants as method
-use Rattle.px_column.specs.declared.operator.Operator.{Operator}
-use Rattle.px_column.specs.declared.operator.Operator.TheVariants.{Plus, Multiply, Gt, NotEq}
+use Rattle.px_column.specs.declared.operator.Operator.TheVariants.{Multiply, Gt}
 use Rattle.px_column.specs.declared.sort_options.SortOptions.{SortOptions}
 use Rattle.px_frame.specs.External.{Frame, alone}
-use Rattle.px_plan.specs.Tree.{Tree, Trees, Order, Literal, single, range, series, trees_of, no_trees, one_tree, no_order, ordered, column, literal, alias, binary, ternary, cast, function, filter, slice, gather, sort, sort_by, agg, len, window}
+use Rattle.px_plan.specs.Tree.{Tree, single, no_trees, one_tree, no_order, column, literal, alias, binary, cast, function, agg, len, window}
 use Rattle.px_plan.specs.declared.function.FunctionExpr.TheVariants.{Explode, IsNotNull, Reverse}
 use Rattle.px_plan.specs.declared.window.WindowMapping.{WindowMapping}
-use Rattle.px_plan.specs.declared.window.WindowMapping.TheVariants.{GroupsToRows, Join}
+use Rattle.px_plan.specs.declared.window.WindowMapping.TheVariants.{GroupsToRows}
 use Rattle.px_steps.specs.Step as step
 use Rattle.px_steps.specs.Step.{PlainStep, select, group}
 use Rattle.px_vectors.specs.Worked.{num, four_rows}
@@ -63,6 +61,18 @@ no_value = literal (single nulls None)
 -- a null of numbers
 abbrev pub null_int : Tree
 null_int = cast no_value int64s Strict
+
+-- the number below zero with this absolute value
+abbrev pub negative : ℕ → Tree
+negative zero = int 0
+negative (suc n) = literal (single int64s (Some (integer (negsuc n))))
+
+abbrev pub truths : List Bool → List Slot
+truths bs = map truth bs
+
+-- three rows, of which the second is a null
+abbrev pub some_nulls : Frame
+some_nulls = alone (column_of (codes "x") int64s (num 1 ∷ None ∷ num 3 ∷ []) ∷ [])
 
 abbrev pub greater : Tree → ℕ → Tree
 greater e n = binary e Gt (int n)

@@ -2,6 +2,8 @@
 #![tactic(auto)]
 
 mod examples;
+mod form_examples;
+mod node_examples;
 mod plain;
 mod plain_step;
 mod worked;
@@ -9,6 +11,8 @@ mod worked;
 pub use examples::{
     fault_examples, group_examples, refusal_examples, select_examples, window_examples,
 };
+pub use form_examples::{choice_forms, row_forms, step_forms};
+pub use node_examples::{choice_examples, function_examples, row_examples};
 pub use plain::plain_parts;
 pub use plain_step::{Aggregation, plain_group_step};
 pub use worked::{
