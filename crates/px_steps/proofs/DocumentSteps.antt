@@ -4,15 +4,16 @@ use Rattle.std.specs.List.{list_all}
 use Rattle.std.proofs.lemmas.Bool.Decides.{nat_tests}
 use Rattle.serde_json.specs.Data.{Data}
 use Rattle.serde_json.specs.Find.{as_null, as_str}
-use Rattle.serde_json.specs.Read.{read}
 use Rattle.px_column.specs.declared.method.GroupByMethod.TheVariants.{Sum}
 use Rattle.px_plan.specs.Tree.{Tree, column, agg, len}
 use Rattle.px_steps.specs.Built.{is_built, is_built_key, is_built_agg}
-use Rattle.px_steps.specs.Document.{Doc, IsDocumentText, document_of, document_of_parts, column_of, step_of, steps_of, group_of_parts, key_of, agg_of, is_len, reduction_of, reduction_of_parts, is_sum}
+use Rattle.px_steps.specs.BuiltDocument.{is_built_document}
+use Rattle.px_steps.specs.DocumentText.{IsDocumentText}
+use Rattle.px_steps.specs.Document.{Doc, document_of, document_of_parts, column_of, step_of, steps_of, group_of_parts, key_of, agg_of, is_len, reduction_of, reduction_of_parts, is_sum}
 use Rattle.px_column.specs.Option.{◌>>=◌, each}
 use Rattle.px_steps.specs.Form.{items, field, fields}
 use Rattle.px_steps.specs.Step.{PlainStep, group}
-use Rattle.px_steps.proofs.Columns.{and_then_some, map_some}
+use Rattle.px_steps.proofs.Columns.{and_then_some, both, map_some}
 
 -- what holds of each item that is read holds of all
 each_all : {B : Type 0} (f : Data → Option B) (test : B → Bool) (ds : List Data) (bs : List B) → ((d : Data) (b : B) → f d ≡ Some b → test b ≡ true) → each f ds ≡ Some bs → list_all test bs ≡ true
@@ -93,6 +94,15 @@ parts_built doc (c ∷ s ∷ d ∷ ds) e = cc
 document_built : (d : Data) (doc : Doc) → document_of d ≡ Some doc → (list_all is_built doc.steps ≡ true) × (length doc.steps ≡ 1)
 document_built d doc e = let parts = and_then_some (fields (codes "columns" ∷ codes "steps" ∷ []) d) document_of_parts doc e in parts_built doc parts.0 parts.2
 
+is_one : (n : ℕ) → (n == 1) ≡ true → n ≡ 1
+is_one n h = grind (arith, nat_tests)
+
 -- a document has one step, of a form that is built
 pub text_built : (bytes : List ℕ) (doc : Doc) → IsDocumentText bytes doc → (list_all is_built doc.steps ≡ true) × (length doc.steps ≡ 1)
-text_built bytes doc t = let said = and_then_some (read bytes) document_of doc t.says in document_built said.0 doc said.2
+text_built bytes doc t = let b = both (length doc.steps == 1) (list_all is_built doc.steps) t.built in (b.1, is_one (length doc.steps) b.0)
+
+-- what is read has one step, of a form that is built
+pub read_built : (d : Data) (doc : Doc) → document_of d ≡ Some doc → is_built_document doc ≡ true
+read_built d doc e =
+    let b = document_built d doc e in
+    (λ i. (b.1 i == 1) && list_all is_built doc.steps) ∙ b.0

@@ -6,6 +6,9 @@ pub mod Named
 pub mod Columns
 pub mod KeyLoop
 pub mod DocumentSteps
+pub mod FormLaws
+pub mod FormBack
+pub mod ReadText
 pub mod Replied
 pub mod StepLoop
 pub mod Endings

@@ -166,8 +166,8 @@ document_of d = fields (codes "columns" ∷ codes "steps" ∷ []) d >>= document
 abbrev pub doc_view : Parsed → Doc
 doc_view p = record { columns = p.columns.items; steps = map step_view p.steps.items }
 
--- the bytes are JSON in UTF-8 that says this document, and there are fewer than 2^26 of them
-pub record IsDocumentText (bytes : List ℕ) (doc : Doc) : Type 0 where
+-- the bytes are JSON in UTF-8 that says this document in the forms that are read, and there are fewer than 2^26 of them
+pub record IsReadText (bytes : List ℕ) (doc : Doc) : Type 0 where
   pub short : length bytes < 2 ^ 26
   pub utf8 : IsUtf8 bytes
   pub says : option_and_then document_of (read bytes) ≡ Some doc

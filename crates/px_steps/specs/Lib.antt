@@ -11,6 +11,8 @@ pub mod Fault
 pub mod Plain
 pub mod Direct
 pub mod Built
+pub mod BuiltDocument
+pub mod DocumentText
 pub mod DirectLaws
 pub mod Reply
 pub mod Meets

@@ -3,7 +3,8 @@ use Rattle.std.specs.Prelude.{◌≡◌, ℕ, List, Some, None}
 use Rattle.px_column.specs.Series.{Series}
 use Rattle.px_column.specs.declared.error.PxError.{PxError}
 use Rattle.px_frame.specs.Frame.{IsFrame, height_of}
-use Rattle.px_steps.specs.Document.{Doc, IsDocumentText}
+use Rattle.px_steps.specs.Document.{Doc}
+use Rattle.px_steps.specs.DocumentText.{IsDocumentText}
 use Rattle.px_steps.specs.Label.{line_of, bad_document_line}
 use Rattle.px_frame.specs.External.{alone}
 use Rattle.px_steps.specs.Plain.{first_refusal_of, plain_on}
