@@ -1,8 +1,12 @@
-//! Laws of what expressions mean. A function here does nothing: its clause is the law, for each expression.
+//! Laws of what expressions mean. A function here does nothing: its clauses are laws.
 #![tactic(auto)]
 
+mod parts;
 mod value;
 
+pub use parts::{
+    ordered_parts_hold_each_row_once, parts_hold_each_row_once, spread_keeps_equal_lengths,
+};
 pub use value::{
     alias_changes_the_name_alone, value_has_its_shape, value_needs_no_external_column,
 };

@@ -1,0 +1,35 @@
+//! Laws of the parts of a frame's rows, and of cells at a number of rows.
+ghost use Rattle.std.specs.Prelude.{◌≡◌, ◌≢◌, ℕ, ◌<◌, List, Option, Ok, Err, length, replicate};
+ghost use Rattle.std.specs.List.{All, concat, range_with_len};
+ghost use Rattle.std.specs.List.Sorted.{IsPermutation, IsStrictlyIncreasing};
+ghost use Rattle.px_column.specs.Datum.{Slot};
+ghost use Rattle.px_column.specs.Series.{Series};
+ghost use Rattle.px_column.specs.declared.error.PxError.TheVariants.{ShapeMismatch};
+ghost use Rattle.px_column.specs.declared.sort_options.SortOptions.{SortOptions};
+ghost use Rattle.px_frame.specs.Cell.{unit, rows};
+ghost use Rattle.px_frame.specs.Ordered.{ordered_parts};
+ghost use Rattle.px_frame.specs.Parts.{parts_of};
+ghost use Rattle.px_frame.specs.Spread.{spread};
+
+/// The parts of n rows by some columns hold the rows below n, each once. No part is empty, and the rows
+/// of a part rise.
+#[tactic(auto, using(crate::proofs::PartRows::each_row_once, crate::proofs::PartRows::no_part_is_empty, crate::proofs::PartRows::parts_rise))]
+pub fn parts_hold_each_row_once()
+    ensures once { (by : List Series) (n : ℕ) → IsPermutation (range_with_len 0 n) (concat (parts_of by n)) }
+    ensures not_empty { (by : List Series) (n : ℕ) → All (λ p. 0 < length p) (parts_of by n) }
+    ensures rising { (by : List Series) (n : ℕ) → All IsStrictlyIncreasing (parts_of by n) }
+{}
+
+/// So do the parts whose rows are put in the order of a column.
+#[tactic(auto, using(crate::proofs::OrderedRows::each_ordered_row_once))]
+pub fn ordered_parts_hold_each_row_once()
+    ensures { (by : List Series) (order : Option (Series × SortOptions)) (n : ℕ) → IsPermutation (range_with_len 0 n) (concat (ordered_parts by order n)) }
+{}
+
+/// A list stands at as many rows as it has and at no other number, also a list of one row. A unit stands
+/// at any number of rows, and is the same at each.
+pub fn spread_keeps_equal_lengths()
+    ensures own_length { (xs : List Slot) → spread (length xs) (rows xs) ≡ Ok xs }
+    ensures other_length { (n : ℕ) (xs : List Slot) → length xs ≢ n → spread n (rows xs) ≡ Err ShapeMismatch }
+    ensures unit { (n : ℕ) (s : Slot) → spread n (unit s) ≡ Ok (replicate n s) }
+{}
