@@ -8,5 +8,6 @@ pub use parts::{
     ordered_parts_hold_each_row_once, parts_hold_each_row_once, spread_keeps_equal_lengths,
 };
 pub use value::{
-    alias_changes_the_name_alone, value_has_its_shape, value_needs_no_external_column,
+    accepted_without_fault_has_value, alias_changes_the_name_alone, value_has_its_shape,
+    value_has_no_fault, value_needs_no_external_column,
 };
