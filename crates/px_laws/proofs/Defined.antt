@@ -72,7 +72,7 @@ look_there n frame k h = by (look n frame.columns) refl
         beside_there n (map column_field frame.columns) frame.external f.0 missing f.1
 
 -- the frame of some rows has the same names and types
-fields_at : (p : List ℕ) (columns : List Series) → map column_field (map (series_at p) columns) ≡ map column_field columns
+pub fields_at : (p : List ℕ) (columns : List Series) → map column_field (map (series_at p) columns) ≡ map column_field columns
 fields_at p [] = refl
 fields_at p (s ∷ columns) = ap (λ fs. column_field s ∷ fs) (fields_at p columns)
 
@@ -87,8 +87,8 @@ external_fields : (n : ℕ) (p : List ℕ) (fields : List FieldKind) (external :
 external_fields n p fields [] = refl
 external_fields n p fields (s ∷ external) = ap (λ fs. fold with_field fs (map (external_at n p) external)) (field_at n p fields s) ∙ external_fields n p (with_field fields s) external
 
-pub scope-rows : (frame : Frame) (p : List ℕ) → scope_of (rows_of_frame frame p) ≡ scope_of frame
-scope-rows frame p =
+pub scope_of_rows : (frame : Frame) (p : List ℕ) → scope_of (rows_of_frame frame p) ≡ scope_of frame
+scope_of_rows frame p =
     ap (λ fs. fold with_field fs (map (external_at (height frame) p) frame.external)) (fields_at p frame.columns) ∙ external_fields (height frame) p (map column_field frame.columns) frame.external
 
 -- an outcome without a fault is a value, and the other way round
@@ -223,7 +223,7 @@ mutual
       let by = named_all keys frame Default (none_right (refusals_of f s Aggregation) _ early) (none_left _ _ of_keys) in
       let o = order_there order frame Default (none_right (refusals_of f s Aggregation ++ all_refusals_of keys s Default) _ inputs) (none_right (all_faults_on keys frame) _ of_keys) in
       let found : window_parts (named_on keys frame) (order_on order frame) frame ≡ Some (parts_by by.0 o.0 (height frame)) = (λ i. window_parts (by.1 i) (o.1 i) frame) in
-      window_there f mapping frame (parts_by by.0 o.0 (height frame)) _ found (λ p g. value_there f (rows_of_frame frame p) Aggregation (ap (λ scope. refusals_of f scope Aggregation) (scope-rows frame p) ∙ fr) g) of_parts own
+      window_there f mapping frame (parts_by by.0 o.0 (height frame)) _ found (λ p g. value_there f (rows_of_frame frame p) Aggregation (ap (λ scope. refusals_of f scope Aggregation) (scope_of_rows frame p) ∙ fr) g) of_parts own
 
   cells_there : (es : Trees) (frame : Frame) (place : Context) → all_refusals_of es (scope_of frame) place ≡ [] → all_faults_on es frame ≡ [] → There (cells_on es frame)
   cells_there no_trees frame place r h = ([], refl)

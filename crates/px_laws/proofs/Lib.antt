@@ -4,3 +4,4 @@ pub mod KindThere
 pub mod Defined
 pub mod PartRows
 pub mod OrderedRows
+pub mod GroupRows

@@ -1,19 +1,21 @@
 -- The parts of rows by keys hold each row once.
-use Rattle.std.proofs.Common.{◌≡◌, ℕ, zero, suc, ◌+◌, ◌≤◌, ◌<◌, Bool, true, false, cond, ◌||◌, List, [], ◌∷◌, ◌++◌, length, get_or, map, fold, refl, sym, ◌∙◌, ap, subst, arith}
+use Rattle.std.proofs.Common.{◌≡◌, ℕ, zero, suc, ◌+◌, ◌≤◌, ◌<◌, Bool, true, false, cond, ◌||◌, List, [], ◌∷◌, ◌++◌, length, get_or, map, fold, refl, sym, ◌∙◌, ap, subst, arith, zero-add}
 use Rattle.std.specs.Cmp.{IsEquivalence}
 use Rattle.std.specs.List.{All, AllByRecursion, Contains, concat, filter, flat_map, list_any, range_with_len}
 use Rattle.std.specs.List.Sorted.{IsPermutation, IsStrictlyIncreasing}
 use Rattle.std.proofs.lemmas.List.Concat.{concat_is}
-use Rattle.std.proofs.lemmas.List.Elements.{All-nil, All-head, All-tail, All-push, All-map, All-weaker, All-contains_itself}
+use Rattle.std.proofs.lemmas.List.Elements.{All-nil, All-head, All-tail, All-push, All-map, All-weaker, All-contains, All-contains_itself, filter_passes}
 use Rattle.std.proofs.lemmas.List.Folds.{flat_map-map}
 use Rattle.std.proofs.lemmas.List.FromFn.{length-range_with_len, get_or-range_with_len, length-map-range_with_len}
 use Rattle.std.proofs.lemmas.List.Kept.{IsStrictlyIncreasing-filter}
 use Rattle.std.proofs.lemmas.List.Sorted.{IsPermutation-refl, IsPermutation-sym, IsPermutation-trans, IsPermutation-cons, IsPermutation-append_right, IsPermutation-middle}
+use Rattle.px_column.specs.Datum.{Slot}
 use Rattle.px_column.specs.Decided.{IsEquivalence-decides, row_decides}
 use Rattle.px_column.specs.Equality.{row_eq}
 use Rattle.px_column.specs.Key.{key_at, keys_of}
 use Rattle.px_column.specs.Series.{Series}
 use Rattle.px_frame.specs.Parts.{numbers, with_key, distinct, parts, parts_of}
+use Rattle.px_laws.specs.Keyed.{HasOneKey, HasWholeKey}
 
 module _ {K : Type 0} where
   -- how many pass the test
@@ -184,3 +186,40 @@ pub parts_rise : (by : List Series) (n : ℕ) → All IsStrictlyIncreasing (part
 parts_rise by n =
     All-map IsStrictlyIncreasing (λ f. numbers (row_eq f) 0 (keys_of by n)) (distinct row_eq (keys_of by n))
     (λ k d lt. numbers_rise (row_eq (get_or (distinct row_eq (keys_of by n)) k d)) (key_at by) n)
+
+-- a number stands in a range from 0 where it is below its end
+in_range : (n r : ℕ) → r < n → Contains (range_with_len 0 n) r
+in_range n r lt = (r, omega (arith, length-range_with_len 0 n), get_or-range_with_len 0 n r r lt ∙ zero-add r)
+
+-- an item that passes the test is kept
+still_there : {X : Type 0} (test : X → Bool) (x : X) (xs : List X) (i : ℕ) → i < length xs → get_or xs i x ≡ x → test x ≡ true → Contains (filter test xs) x
+still_there test x [] i lt is e = absurd (omega arith)
+still_there test x (y ∷ ys) zero lt is e = subst (λ b. Contains (cond b (y ∷ filter test ys) (filter test ys)) x) (sym (ap test is ∙ e)) (0, omega arith, is)
+still_there test x (y ∷ ys) (suc i) lt is e = by (test y) (still_there test x ys i (omega arith) is e)
+  where
+    by : (b : Bool) → Contains (filter test ys) x → Contains (cond b (y ∷ filter test ys) (filter test ys)) x
+    by true c = (suc c.0, omega (arith, c.1), c.2)
+    by false c = c
+
+-- a part is the rows below n whose key is the part's
+part_kept : (by : List Series) (n : ℕ) (f : List Slot) → numbers (row_eq f) 0 (keys_of by n) ≡ filter (λ r. row_eq f (key_at by r)) (range_with_len 0 n)
+part_kept by n f = numbers_kept (row_eq f) (key_at by) 0 n
+
+key_of_part : (by : List Series) (n : ℕ) (f : List Slot) (r : ℕ) → Contains (numbers (row_eq f) 0 (keys_of by n)) r → f ≡ key_at by r
+key_of_part by n f r c =
+    let kept : Contains (filter (λ r. row_eq f (key_at by r)) (range_with_len 0 n)) r = subst (λ ns. Contains ns r) (part_kept by n f) c in
+    (row_decides f (key_at by r)).0 (All-contains (λ r. row_eq f (key_at by r) ≡ true) _ r (filter_passes (λ r. row_eq f (key_at by r)) (range_with_len 0 n)) kept)
+
+pub one_key : (by : List Series) (n : ℕ) → All (HasOneKey by) (parts_of by n)
+one_key by n =
+    All-map (HasOneKey by) (λ f. numbers (row_eq f) 0 (keys_of by n)) (distinct row_eq (keys_of by n))
+    (λ k d lt q r cq cr. let f = get_or (distinct row_eq (keys_of by n)) k d in sym (key_of_part by n f q cq) ∙ key_of_part by n f r cr)
+
+pub all_of_a_key : (by : List Series) (n : ℕ) → All (HasWholeKey by n) (parts_of by n)
+all_of_a_key by n =
+    All-map (HasWholeKey by n) (λ f. numbers (row_eq f) 0 (keys_of by n)) (distinct row_eq (keys_of by n))
+    (λ k d lt q r cq below same.
+    let f = get_or (distinct row_eq (keys_of by n)) k d in
+    let here = in_range n r below in
+    subst (λ ns. Contains ns r) (sym (part_kept by n f))
+    (still_there (λ r. row_eq f (key_at by r)) r (range_with_len 0 n) here.0 here.1 here.2 ((row_decides f (key_at by r)).1 (key_of_part by n f q cq ∙ same))))

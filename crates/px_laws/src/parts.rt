@@ -1,15 +1,19 @@
 //! Laws of the parts of a frame's rows, and of cells at a number of rows.
-ghost use Rattle.std.specs.Prelude.{◌≡◌, ◌≢◌, ℕ, ◌<◌, List, Option, Ok, Err, length, replicate};
+ghost use Rattle.std.specs.Prelude.{◌≡◌, ◌≢◌, ℕ, ◌<◌, List, Option, Ok, Err, length, map, replicate, slice_index};
 ghost use Rattle.std.specs.List.{All, concat, range_with_len};
 ghost use Rattle.std.specs.List.Sorted.{IsPermutation, IsStrictlyIncreasing};
 ghost use Rattle.px_column.specs.Datum.{Slot};
-ghost use Rattle.px_column.specs.Series.{Series};
+ghost use Rattle.px_column.specs.Series.{Series, slot_at};
 ghost use Rattle.px_column.specs.declared.error.PxError.TheVariants.{ShapeMismatch};
 ghost use Rattle.px_column.specs.declared.sort_options.SortOptions.{SortOptions};
 ghost use Rattle.px_frame.specs.Cell.{unit, rows};
+ghost use Rattle.px_frame.specs.External.{Frame, height, rows_of_frame, scope_of};
+ghost use Rattle.px_frame.specs.Frame.{series_at};
 ghost use Rattle.px_frame.specs.Ordered.{ordered_parts};
 ghost use Rattle.px_frame.specs.Parts.{parts_of};
+ghost use Rattle.px_frame.specs.Schema.{column_field};
 ghost use Rattle.px_frame.specs.Spread.{spread};
+ghost use Rattle.px_laws.specs.Keyed.{HasOneKey, HasWholeKey};
 
 /// The parts of n rows by some columns hold the rows below n, each once. No part is empty, and the rows
 /// of a part rise.
@@ -24,6 +28,22 @@ pub fn parts_hold_each_row_once()
 #[tactic(auto, using(crate::proofs::OrderedRows::each_ordered_row_once))]
 pub fn ordered_parts_hold_each_row_once()
     ensures { (by : List Series) (order : Option (Series × SortOptions)) (n : ℕ) → IsPermutation (range_with_len 0 n) (concat (ordered_parts by order n)) }
+{}
+
+/// Rows are in one part where the columns hold the same at them, a null being the same as a null.
+pub fn parts_are_the_rows_of_a_key()
+    ensures one_key { (by : List Series) (n : ℕ) → All (HasOneKey by) (parts_of by n) }
+    ensures whole_key { (by : List Series) (n : ℕ) → All (HasWholeKey by n) (parts_of by n) }
+{}
+
+/// The frame of a group's rows has the frame's names and types, as many rows as the group, and at each
+/// what the frame holds at that row.
+#[tactic(auto, using(crate::proofs::Defined::fields_at, crate::proofs::Defined::scope_of_rows, crate::proofs::GroupRows::height_of_rows, crate::proofs::GroupRows::values_of_rows))]
+pub fn group_rows_are_the_frame()
+    ensures fields { (frame : Frame) (group : List ℕ) → map column_field (rows_of_frame frame group).columns ≡ map column_field frame.columns }
+    ensures scope { (frame : Frame) (group : List ℕ) → scope_of (rows_of_frame frame group) ≡ scope_of frame }
+    ensures height { (frame : Frame) (group : List ℕ) → 0 < length frame.columns → height (rows_of_frame frame group) ≡ length group }
+    ensures values { (s : Series) (group : List ℕ) (i : ℕ) → i < length group → slot_at (series_at group s).slots i ≡ slot_at s.slots (slice_index group i) }
 {}
 
 /// A list stands at as many rows as it has and at no other number, also a list of one row. A unit stands
