@@ -96,6 +96,7 @@ own_there : (o : Option (Result Cell PxError)) (r : Result Cell PxError) → o �
 own_there o (Ok c) p h = (c, ap made p)
 own_there o (Err e) p h = let no : e ∷ [] ≡ [] = sym (ap fault_in p) ∙ h in cc
 
+-- a value is no fault
 no_fault : (o : Option (Result Cell PxError)) (c : Cell) → made o ≡ Some c → fault_in o ≡ []
 no_fault None c h = cc
 no_fault (Some (Ok d)) c h = refl
@@ -111,10 +112,12 @@ each_there f (x ∷ xs) faults h e =
     let rest = each_there f xs faults h (none_right (faults x) _ e) in
     (first.0 ∷ rest.0, λ i. first.1 i >>= λ y. option_map (λ ys. y ∷ ys) (rest.1 i))
 
+-- what is there after a map was there before
 mapped : {X Y : Type 0} (o : Option X) (g : X → Y) (y : Y) → option_map g o ≡ Some y → (x : X) × (o ≡ Some x)
 mapped None g y h = cc
 mapped (Some x) g y h = (x, refl)
 
+-- where something is made of each, none has a fault
 each_sound : {A B : Type 0} (f : A → Option B) (xs : List A) (ys : List B) (faults : A → List PxError) → ((x : A) (y : B) → f x ≡ Some y → faults x ≡ []) → each f xs ≡ Some ys → flat_map faults xs ≡ []
 each_sound f [] ys faults h e = refl
 each_sound f (x ∷ xs) ys faults h e =
@@ -336,5 +339,6 @@ mutual
       let a = bound (made (outcome_on t frame)) (named t frame) n.0 n.1 in
       value_sound t frame a.0 a.1
 
+-- an expression that is not refused and has no fault has a value
 pub value_is_there : (e : Tree) (frame : Frame) → refusals_of e (scope_of frame) Default ≡ [] → faults_on e frame ≡ [] → IsSome (value_on e frame)
 value_is_there e frame r h = let c = value_there e frame Default r h in ap is_some c.1

@@ -12,6 +12,7 @@ height_at : (columns : List Series) (rows : List ℕ) → 0 < length columns →
 height_at [] rows h = absurd (omega arith)
 height_at (s ∷ columns) rows h = length-map rows (slot_at s.slots)
 
+-- the same of a whole frame
 pub height_of_rows : (frame : Frame) (rows : List ℕ) → 0 < length frame.columns → height (rows_of_frame frame rows) ≡ length rows
 height_of_rows frame rows h = height_at frame.columns rows h
 
@@ -21,5 +22,6 @@ values_at xs [] i lt = absurd (omega arith)
 values_at xs (r ∷ rows) zero lt = refl
 values_at xs (r ∷ rows) (suc i) lt = values_at xs rows i (omega arith)
 
+-- the same of a column
 pub values_of_rows : (s : Series) (rows : List ℕ) (i : ℕ) → i < length rows → slot_at (series_at rows s).slots i ≡ slot_at s.slots (slice_index rows i)
 values_of_rows s rows i lt = values_at s.slots rows i lt

@@ -5,3 +5,4 @@ pub mod Defined
 pub mod PartRows
 pub mod OrderedRows
 pub mod GroupRows
+pub mod FirstRows

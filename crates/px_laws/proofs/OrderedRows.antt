@@ -1,7 +1,7 @@
 -- Rows in the order of a column are those rows.
 use Rattle.std.proofs.Common.{◌≡◌, ℕ, ◌+◌, Bool, true, false, cond, List, [], ◌∷◌, ◌++◌, Option, Some, None, length, map, fold, refl, sym, ◌∙◌, ap, subst, append-nil, append_assoc, length-append}
 use Rattle.std.proofs.Math.Seq.{get_or-append_seam}
-use Rattle.std.specs.List.{concat, range_with_len, slice_index}
+use Rattle.std.specs.List.{AllZip, concat, range_with_len, slice_index}
 use Rattle.std.specs.List.Sorted.{IsPermutation}
 use Rattle.std.specs.Ordering.{is_lt}
 use Rattle.std.proofs.lemmas.List.Sorted.{IsPermutation-refl, IsPermutation-sym, IsPermutation-trans, IsPermutation-cons, IsPermutation-append, IsPermutation-append_left, IsPermutation-map, IsPermutation-middle}
@@ -24,6 +24,7 @@ module _ (keys : List (SortOptions × List Slot)) where
       by true rest = IsPermutation-refl (i ∷ j ∷ js)
       by false rest = IsPermutation-trans _ _ _ (IsPermutation-sym _ _ (IsPermutation-middle (j ∷ []) i js)) (IsPermutation-cons j _ _ rest)
 
+  -- rows put in one after another
   all_put_in : (rs js : List ℕ) → IsPermutation (js ++ rs) (fold (with_row keys) js rs)
   all_put_in [] js = subst (λ ns. IsPermutation ns js) (sym (append-nil js)) (IsPermutation-refl js)
   all_put_in (r ∷ rs) js =
@@ -42,6 +43,7 @@ at_places before (r ∷ rows) =
     size : length (before ++ r ∷ []) ≡ length before + 1
     size = length-append before (r ∷ [])
 
+-- rows in the order of a column are those rows
 pub in_order_once : (s : Series) (options : SortOptions) (rows : List ℕ) → IsPermutation rows (in_order s options rows)
 in_order_once s options rows =
     let keys : List (SortOptions × List Slot) = (options, slots_at s.slots rows) ∷ [] in
@@ -52,7 +54,23 @@ joined_once : (f : List ℕ → List ℕ) → ((p : List ℕ) → IsPermutation 
 joined_once f moves [] = IsPermutation-refl []
 joined_once f moves (p ∷ ps) = IsPermutation-append p (f p) _ _ (moves p) (joined_once f moves ps)
 
+-- the ordered parts hold each row once
 pub each_ordered_row_once : (by : List Series) (order : Option (Series × SortOptions)) (n : ℕ) → IsPermutation (range_with_len 0 n) (concat (ordered_parts by order n))
 each_ordered_row_once by None n = each_row_once by n
 each_ordered_row_once by (Some o) n =
     IsPermutation-trans _ _ _ (each_row_once by n) (joined_once (in_order o.0 o.1) (in_order_once o.0 o.1) (parts_of by n))
+
+-- each list is put in another order
+moved_each : (f : List ℕ → List ℕ) → ((p : List ℕ) → IsPermutation p (f p)) → (ps : List (List ℕ)) → AllZip IsPermutation ps (map f ps)
+moved_each f moves [] = tt
+moved_each f moves (p ∷ ps) = (moves p, moved_each f moves ps)
+
+-- or left as it is
+unmoved : (ps : List (List ℕ)) → AllZip IsPermutation ps ps
+unmoved [] = tt
+unmoved (p ∷ ps) = (IsPermutation-refl p, unmoved ps)
+
+-- each part is put in another order by itself
+pub each_part_moved : (by : List Series) (order : Option (Series × SortOptions)) (n : ℕ) → AllZip IsPermutation (parts_of by n) (ordered_parts by order n)
+each_part_moved by None n = unmoved (parts_of by n)
+each_part_moved by (Some o) n = moved_each (in_order o.0 o.1) (in_order_once o.0 o.1) (parts_of by n)

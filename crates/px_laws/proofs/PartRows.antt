@@ -23,6 +23,7 @@ module _ {K : Type 0} where
   many test [] = 0
   many test (k ∷ ks) = cond (test k) (1 + many test ks) (many test ks)
 
+  -- one more item
   many_push : (test : K → Bool) (ks : List K) (k : K) → many test (ks ++ k ∷ []) ≡ many test ks + cond (test k) 1 0
   many_push test [] k = by (test k)
     where
@@ -35,6 +36,7 @@ module _ {K : Type 0} where
       by true h = omega (arith, h)
       by false h = h
 
+  -- none passes the test
   many_none : (test : K → Bool) (ks : List K) → list_any test ks ≡ false → many test ks ≡ 0
   many_none test [] h = refl
   many_none test (k ∷ ks) h = by (test k) h (many_none test ks)
@@ -43,6 +45,7 @@ module _ {K : Type 0} where
       by true g rest = cc
       by false g rest = rest g
 
+  -- one passes it
   many_some : (test : K → Bool) (ks : List K) → list_any test ks ≡ true → 1 ≤ many test ks
   many_some test [] h = absurd cc
   many_some test (k ∷ ks) h = by (test k) h (many_some test ks)
@@ -74,6 +77,7 @@ module _ {K : Type 0} where
       by false g rest =
           IsPermutation-trans _ _ _ (IsPermutation-sym _ _ (IsPermutation-middle (lists f) a (flat_map lists fs))) (IsPermutation-append_right (lists f) _ _ (rest g))
 
+  -- empty lists joined
   no_list : (fs : List K) → flat_map {A = ℕ} (λ f. []) fs ≡ []
   no_list [] = refl
   no_list (f ∷ fs) = no_list fs
@@ -83,12 +87,15 @@ module _ {K : Type 0} where
     abbrev Once : List K → List K → Type 0
     Once fs ks = AllByRecursion (λ k. many (eq k) fs ≡ 1) ks
 
+    -- no key stands twice among the keys fs
     abbrev AtMost : List K → Type 0
     AtMost fs = (k : K) → many (eq k) fs ≤ 1
 
+    -- the same key stands the same number of times
     same_many : (k l : K) (fs : List K) → eq k l ≡ true → many (eq k) fs ≡ many (eq l) fs
     same_many k l fs e = λ i. many (λ f. laws.congr k l f e i) fs
 
+    -- one more key leaves those that are there
     grows : (k l : K) (fs : List K) → many (eq k) fs ≤ many (eq k) (with_key eq fs l)
     grows k l fs = by (list_any (eq l) fs)
       where
@@ -96,6 +103,7 @@ module _ {K : Type 0} where
         by true = omega arith
         by false = omega (arith, many_push (eq k) fs l)
 
+    -- and puts none twice
     still_at_most : (k l : K) (fs : List K) → many (eq k) fs ≤ 1 → many (eq k) (with_key eq fs l) ≤ 1
     still_at_most k l fs h = by (list_any (eq l) fs) refl
       where
@@ -107,6 +115,7 @@ module _ {K : Type 0} where
         by true e = h
         by false e = subst (λ n. n ≤ 1) (sym (many_push (eq k) fs l)) (new (eq k l) refl e)
 
+    -- it stands there then
     there : (k : K) (fs : List K) → many (eq k) fs ≤ 1 → many (eq k) (with_key eq fs k) ≡ 1
     there k fs h = by (list_any (eq k) fs) refl
       where
@@ -114,11 +123,13 @@ module _ {K : Type 0} where
         by true e = omega (arith, h, many_some (eq k) fs e)
         by false e = many_push (eq k) fs k ∙ (λ i. many_none (eq k) fs e i + cond (laws.refl k i) 1 0)
 
+    -- a key that stands once still does after more keys
     stays : (k : K) (ks fs : List K) → AtMost fs → many (eq k) fs ≡ 1 → many (eq k) (fold (with_key eq) fs ks) ≡ 1
     stays k [] fs few h = h
     stays k (l ∷ ks) fs few h =
         stays k ks (with_key eq fs l) (λ m. still_at_most m l fs (few m)) (let up = grows k l fs in let bound = still_at_most k l fs (few k) in omega (arith, h, up, bound))
 
+    -- each key stands once among the distinct keys
     all_once : (ks fs : List K) → AtMost fs → Once (fold (with_key eq) fs ks) ks
     all_once [] fs few = tt
     all_once (k ∷ ks) fs few =
@@ -132,6 +143,7 @@ module _ {K : Type 0} where
         let one : many (λ f. eq f k) fs ≡ 1 = (λ i. many (λ f. laws.symm f k i) fs) ∙ h.0 in
         IsPermutation-trans _ _ _ (IsPermutation-cons a _ _ (joined fs ks (a + 1) h.1)) (put_one (λ f. eq f k) a (λ f. numbers (eq f) (a + 1) ks) fs one)
 
+    -- the parts joined are the numbers of the keys
     parts_joined : (ks : List K) → IsPermutation (range_with_len 0 (length ks)) (concat (parts eq ks))
     parts_joined ks =
         subst (IsPermutation (range_with_len 0 (length ks))) (sym (concat_is (parts eq ks) ∙ flat_map-map (λ p. p) (λ f. numbers (eq f) 0 ks) (distinct eq ks)))
@@ -157,6 +169,7 @@ module _ {K : Type 0} where
         by true rest = omega arith
         by false rest = rest
 
+    -- a part has a row
     none_empty : (ks : List K) → All (λ p. 0 < length p) (parts eq ks)
     none_empty ks =
         All-map (λ p. 0 < length p) (λ f. numbers (eq f) 0 ks) (distinct eq ks)
@@ -167,9 +180,11 @@ module _ {K : Type 0} where
   numbers_kept test key a zero = refl
   numbers_kept test key a (suc n) = λ i. cond (test (key a)) (a ∷ numbers_kept test key (a + 1) n i) (numbers_kept test key (a + 1) n i)
 
+-- a range rises
 range_rises : (a n : ℕ) → IsStrictlyIncreasing (range_with_len a n)
 range_rises a n k lt = let size = length-range_with_len a n in omega (arith, size, get_or-range_with_len a n k 0, get_or-range_with_len a n (k + 1) 0)
 
+-- and so do the rows whose key passes a test
 numbers_rise : {K : Type 0} (test : K → Bool) (key : ℕ → K) (n : ℕ) → IsStrictlyIncreasing (numbers test 0 (map key (range_with_len 0 n)))
 numbers_rise test key n = subst IsStrictlyIncreasing (sym (numbers_kept test key 0 n)) (IsStrictlyIncreasing-filter (λ r. test (key r)) (range_with_len 0 n) (range_rises 0 n))
 
@@ -179,9 +194,11 @@ each_row_once by n =
     subst (λ m. IsPermutation (range_with_len 0 m) (concat (parts_of by n))) (length-map-range_with_len (key_at by) 0 n)
     (parts_joined (IsEquivalence-decides row_decides) (keys_of by n))
 
+-- no part by some columns is empty
 pub no_part_is_empty : (by : List Series) (n : ℕ) → All (λ p. 0 < length p) (parts_of by n)
 no_part_is_empty by n = none_empty (IsEquivalence-decides row_decides) (keys_of by n)
 
+-- the rows of each part rise
 pub parts_rise : (by : List Series) (n : ℕ) → All IsStrictlyIncreasing (parts_of by n)
 parts_rise by n =
     All-map IsStrictlyIncreasing (λ f. numbers (row_eq f) 0 (keys_of by n)) (distinct row_eq (keys_of by n))
@@ -205,16 +222,19 @@ still_there test x (y ∷ ys) (suc i) lt is e = by (test y) (still_there test x 
 part_kept : (by : List Series) (n : ℕ) (f : List Slot) → numbers (row_eq f) 0 (keys_of by n) ≡ filter (λ r. row_eq f (key_at by r)) (range_with_len 0 n)
 part_kept by n f = numbers_kept (row_eq f) (key_at by) 0 n
 
+-- the columns hold the key of the part at each of its rows
 key_of_part : (by : List Series) (n : ℕ) (f : List Slot) (r : ℕ) → Contains (numbers (row_eq f) 0 (keys_of by n)) r → f ≡ key_at by r
 key_of_part by n f r c =
     let kept : Contains (filter (λ r. row_eq f (key_at by r)) (range_with_len 0 n)) r = subst (λ ns. Contains ns r) (part_kept by n f) c in
     (row_decides f (key_at by r)).0 (All-contains (λ r. row_eq f (key_at by r) ≡ true) _ r (filter_passes (λ r. row_eq f (key_at by r)) (range_with_len 0 n)) kept)
 
+-- a part has one key
 pub one_key : (by : List Series) (n : ℕ) → All (HasOneKey by) (parts_of by n)
 one_key by n =
     All-map (HasOneKey by) (λ f. numbers (row_eq f) 0 (keys_of by n)) (distinct row_eq (keys_of by n))
     (λ k d lt q r cq cr. let f = get_or (distinct row_eq (keys_of by n)) k d in sym (key_of_part by n f q cq) ∙ key_of_part by n f r cr)
 
+-- and all rows that have it
 pub all_of_a_key : (by : List Series) (n : ℕ) → All (HasWholeKey by n) (parts_of by n)
 all_of_a_key by n =
     All-map (HasWholeKey by n) (λ f. numbers (row_eq f) 0 (keys_of by n)) (distinct row_eq (keys_of by n))

@@ -6,7 +6,7 @@ mod value;
 
 pub use parts::{
     group_rows_are_the_frame, ordered_parts_hold_each_row_once, parts_are_the_rows_of_a_key,
-    parts_hold_each_row_once, spread_keeps_equal_lengths,
+    parts_hold_each_row_once, parts_stand_by_their_first_rows, spread_keeps_equal_lengths,
 };
 pub use value::{
     accepted_without_fault_has_value, alias_changes_the_name_alone, value_has_its_shape,

@@ -1,6 +1,6 @@
 //! Laws of the parts of a frame's rows, and of cells at a number of rows.
 ghost use Rattle.std.specs.Prelude.{◌≡◌, ◌≢◌, ℕ, ◌<◌, List, Option, Ok, Err, length, map, replicate, slice_index};
-ghost use Rattle.std.specs.List.{All, concat, range_with_len};
+ghost use Rattle.std.specs.List.{All, AllZip, concat, range_with_len};
 ghost use Rattle.std.specs.List.Sorted.{IsPermutation, IsStrictlyIncreasing};
 ghost use Rattle.px_column.specs.Datum.{Slot};
 ghost use Rattle.px_column.specs.Series.{Series, slot_at};
@@ -9,6 +9,7 @@ ghost use Rattle.px_column.specs.declared.sort_options.SortOptions.{SortOptions}
 ghost use Rattle.px_frame.specs.Cell.{unit, rows};
 ghost use Rattle.px_frame.specs.External.{Frame, height, rows_of_frame, scope_of};
 ghost use Rattle.px_frame.specs.Frame.{series_at};
+ghost use Rattle.px_frame.specs.Groups.{first_row};
 ghost use Rattle.px_frame.specs.Ordered.{ordered_parts};
 ghost use Rattle.px_frame.specs.Parts.{parts_of};
 ghost use Rattle.px_frame.specs.Schema.{column_field};
@@ -24,16 +25,25 @@ pub fn parts_hold_each_row_once()
     ensures rising { (by : List Series) (n : ℕ) → All IsStrictlyIncreasing (parts_of by n) }
 {}
 
-/// So do the parts whose rows are put in the order of a column.
-#[tactic(auto, using(crate::proofs::OrderedRows::each_ordered_row_once))]
-pub fn ordered_parts_hold_each_row_once()
-    ensures { (by : List Series) (order : Option (Series × SortOptions)) (n : ℕ) → IsPermutation (range_with_len 0 n) (concat (ordered_parts by order n)) }
-{}
-
-/// Rows are in one part where the columns hold the same at them, a null being the same as a null.
+/// Two rows are in one part exactly where the columns hold the same at both, a null being the same as a
+/// null.
 pub fn parts_are_the_rows_of_a_key()
     ensures one_key { (by : List Series) (n : ℕ) → All (HasOneKey by) (parts_of by n) }
     ensures whole_key { (by : List Series) (n : ℕ) → All (HasWholeKey by n) (parts_of by n) }
+{}
+
+/// The parts stand in the order of their first rows.
+#[tactic(auto, using(crate::proofs::FirstRows::first_rows_rise))]
+pub fn parts_stand_by_their_first_rows()
+    ensures { (by : List Series) (n : ℕ) → IsStrictlyIncreasing (map first_row (parts_of by n)) }
+{}
+
+/// The parts whose rows are put in the order of a column are those parts, each in an order of its own,
+/// and hold each row once.
+#[tactic(auto, using(crate::proofs::OrderedRows::each_ordered_row_once, crate::proofs::OrderedRows::each_part_moved))]
+pub fn ordered_parts_hold_each_row_once()
+    ensures same_parts { (by : List Series) (order : Option (Series × SortOptions)) (n : ℕ) → AllZip IsPermutation (parts_of by n) (ordered_parts by order n) }
+    ensures once { (by : List Series) (order : Option (Series × SortOptions)) (n : ℕ) → IsPermutation (range_with_len 0 n) (concat (ordered_parts by order n)) }
 {}
 
 /// The frame of a group's rows has the frame's names and types, as many rows as the group, and at each
