@@ -1,27 +1,27 @@
 -- An expression that is not refused has a value exactly where it has no fault.
-use Rattle.std.proofs.Common.{◌≡◌, ℕ, ◌==◌, Bool, true, false, cond, List, [], ◌∷◌, ◌++◌, Option, Some, None, Result, Ok, Err, option_map, length, map, fold, refl, sym, ◌∙◌, ap, subst}
+use Rattle.std.proofs.Common.{◌≡◌, ℕ, ◌==◌, Bool, true, false, cond, List, [], ◌∷◌, ◌++◌, Option, Some, None, Result, Ok, Err, option_map, length, map, fold, refl, sym, ◌∙◌, ap}
 use Rattle.std.specs.List.{find, flat_map, zip}
-use Rattle.std.specs.Option.{option_or}
+use Rattle.std.specs.Option.{IsSome, is_some, option_or}
 use Rattle.px_column.specs.Kind.{Kind}
 use Rattle.px_column.specs.Option.{◌>>=◌, each}
 use Rattle.px_column.specs.Series.{Series}
 use Rattle.px_column.specs.declared.error.PxError.{PxError}
-use Rattle.px_frame.specs.Cell.{Cell, unit, rows}
+use Rattle.px_frame.specs.Cell.{Cell, rows}
 use Rattle.px_frame.specs.External.{Frame, height, look_in, scope_of, rows_of_frame, with_field, external_at}
 use Rattle.px_frame.specs.Frame.{look, has_name, series_at}
 use Rattle.px_frame.specs.Schema.{FieldKind, column_field, has_field_name, is_field_name}
 use Rattle.px_frame.specs.Spread.{NamedCell}
-use Rattle.px_plan.specs.Node.{chosen, literal_cell, binary_cell, ternary_cell, cast_cell, function_cell, filter_cell, slice_cell, gather_cell, sort_cell, sort_by_cell, reduction_cell}
+use Rattle.px_plan.specs.Node.{literal_cell, binary_cell, ternary_cell, cast_cell, function_cell, filter_cell, slice_cell, gather_cell, sort_cell, sort_by_cell, reduction_cell}
 use Rattle.px_plan.specs.Shape.{is_literal_tree, name_of}
 use Rattle.px_plan.specs.Tree.{Tree, Trees, Order, no_trees, one_tree, no_order, ordered, column, literal, alias, binary, ternary, cast, function, filter, slice, gather, sort, sort_by, agg, len, window}
-use Rattle.px_plan.specs.Typing.{Scope, kind_in, kind_of_name, refusals_of, all_refusals_of, order_refusals_of}
+use Rattle.px_plan.specs.Typing.{kind_in, kinds_in, kind_of_name, refusals_of, all_refusals_of, order_refusals_of}
 use Rattle.px_plan.specs.Value.{value_on, outcome_on, made, cells_on, named_on, order_on, named, first_kind, whole_window, window_parts, fault_in, faults_on, all_faults_on, order_faults_on, parts_in, parts_on}
 use Rattle.px_plan.specs.Window.{OrderCell, parts_by, window_cell}
 use Rattle.px_plan.specs.declared.context.Context.{Context}
 use Rattle.px_plan.specs.declared.context.Context.TheVariants.{Default, Aggregation}
 use Rattle.px_plan.specs.declared.window.WindowMapping.{WindowMapping}
 use Rattle.px_laws.proofs.KindThere.{There, none_left, none_right, none_first, kind_there, kinds_there}
-use Rattle.px_laws.proofs.Shapes.{bound, made_bound, made_ok, map_found}
+use Rattle.px_laws.proofs.Shapes.{bound, made_bound, map_found}
 
 -- a name that has a type stands for a column
 missing_stays : (n : List ℕ) (fields : List FieldKind) (s : Series) → find (has_field_name n) fields ≡ None → has_name n s ≡ false → find (has_field_name n) (with_field fields s) ≡ None
@@ -72,7 +72,7 @@ look_there n frame k h = by (look n frame.columns) refl
         beside_there n (map column_field frame.columns) frame.external f.0 missing f.1
 
 -- the frame of some rows has the same names and types
-fields_at : (p : List ℕ) (columns : List Series) → map column_field (map (series_at p) columns) ≡ map column_field columns
+pub fields_at : (p : List ℕ) (columns : List Series) → map column_field (map (series_at p) columns) ≡ map column_field columns
 fields_at p [] = refl
 fields_at p (s ∷ columns) = ap (λ fs. column_field s ∷ fs) (fields_at p columns)
 
@@ -87,8 +87,8 @@ external_fields : (n : ℕ) (p : List ℕ) (fields : List FieldKind) (external :
 external_fields n p fields [] = refl
 external_fields n p fields (s ∷ external) = ap (λ fs. fold with_field fs (map (external_at n p) external)) (field_at n p fields s) ∙ external_fields n p (with_field fields s) external
 
-pub scope-rows : (frame : Frame) (p : List ℕ) → scope_of (rows_of_frame frame p) ≡ scope_of frame
-scope-rows frame p =
+pub scope_of_rows : (frame : Frame) (p : List ℕ) → scope_of (rows_of_frame frame p) ≡ scope_of frame
+scope_of_rows frame p =
     ap (λ fs. fold with_field fs (map (external_at (height frame) p) frame.external)) (fields_at p frame.columns) ∙ external_fields (height frame) p (map column_field frame.columns) frame.external
 
 -- an outcome without a fault is a value, and the other way round
@@ -96,6 +96,7 @@ own_there : (o : Option (Result Cell PxError)) (r : Result Cell PxError) → o �
 own_there o (Ok c) p h = (c, ap made p)
 own_there o (Err e) p h = let no : e ∷ [] ≡ [] = sym (ap fault_in p) ∙ h in cc
 
+-- a value is no fault
 no_fault : (o : Option (Result Cell PxError)) (c : Cell) → made o ≡ Some c → fault_in o ≡ []
 no_fault None c h = cc
 no_fault (Some (Ok d)) c h = refl
@@ -111,16 +112,18 @@ each_there f (x ∷ xs) faults h e =
     let rest = each_there f xs faults h (none_right (faults x) _ e) in
     (first.0 ∷ rest.0, λ i. first.1 i >>= λ y. option_map (λ ys. y ∷ ys) (rest.1 i))
 
+-- what is there after a map was there before
+mapped : {X Y : Type 0} (o : Option X) (g : X → Y) (y : Y) → option_map g o ≡ Some y → (x : X) × (o ≡ Some x)
+mapped None g y h = cc
+mapped (Some x) g y h = (x, refl)
+
+-- where something is made of each, none has a fault
 each_sound : {A B : Type 0} (f : A → Option B) (xs : List A) (ys : List B) (faults : A → List PxError) → ((x : A) (y : B) → f x ≡ Some y → faults x ≡ []) → each f xs ≡ Some ys → flat_map faults xs ≡ []
 each_sound f [] ys faults h e = refl
 each_sound f (x ∷ xs) ys faults h e =
     let first = bound (f x) _ ys e in
     let rest = mapped (each f xs) (λ zs. first.0 ∷ zs) ys first.2 in
     λ i. h x first.0 first.1 i ++ each_sound f xs rest.0 faults h rest.1 i
-  where
-    mapped : {X Y : Type 0} (o : Option X) (g : X → Y) (y : Y) → option_map g o ≡ Some y → (z : X) × (o ≡ Some z)
-    mapped None g y h = cc
-    mapped (Some z) g y h = (z, refl)
 
 -- a window whose parts are there, and whose function has a value on each
 window_there : (f : Tree) (mapping : WindowMapping) (frame : Frame) (parts : Result (List (List ℕ)) PxError) (found : Option (Result (List (List ℕ)) PxError)) → found ≡ Some parts
@@ -223,7 +226,7 @@ mutual
       let by = named_all keys frame Default (none_right (refusals_of f s Aggregation) _ early) (none_left _ _ of_keys) in
       let o = order_there order frame Default (none_right (refusals_of f s Aggregation ++ all_refusals_of keys s Default) _ inputs) (none_right (all_faults_on keys frame) _ of_keys) in
       let found : window_parts (named_on keys frame) (order_on order frame) frame ≡ Some (parts_by by.0 o.0 (height frame)) = (λ i. window_parts (by.1 i) (o.1 i) frame) in
-      window_there f mapping frame (parts_by by.0 o.0 (height frame)) _ found (λ p g. value_there f (rows_of_frame frame p) Aggregation (ap (λ scope. refusals_of f scope Aggregation) (scope-rows frame p) ∙ fr) g) of_parts own
+      window_there f mapping frame (parts_by by.0 o.0 (height frame)) _ found (λ p g. value_there f (rows_of_frame frame p) Aggregation (ap (λ scope. refusals_of f scope Aggregation) (scope_of_rows frame p) ∙ fr) g) of_parts own
 
   cells_there : (es : Trees) (frame : Frame) (place : Context) → all_refusals_of es (scope_of frame) place ≡ [] → all_faults_on es frame ≡ [] → There (cells_on es frame)
   cells_there no_trees frame place r h = ([], refl)
@@ -248,3 +251,94 @@ mutual
       let k = kind_there t (scope_of frame) place r in
       let n = named_there t frame a.0 k.0 k.1 in
       (Some (n.0, options), ap (λ o. option_map (λ c. Some (c, options)) (o >>= named t frame)) a.1 ∙ ap (option_map (λ c. Some (c, options))) n.1)
+
+-- a window whose function has a value on each part has no fault there
+window_sound : (f : Tree) (mapping : WindowMapping) (frame : Frame) (parts : Result (List (List ℕ)) PxError) (c : Cell)
+    → ((p : List ℕ) (d : Cell) → value_on f (rows_of_frame frame p) ≡ Some d → faults_on f (rows_of_frame frame p) ≡ [])
+    → made (whole_window mapping frame parts (λ qs. each (λ p. made (outcome_on f (rows_of_frame frame p))) qs)) ≡ Some c
+    → flat_map (λ p. faults_on f (rows_of_frame frame p)) (parts_in (Some parts)) ≡ []
+window_sound f mapping frame (Err e) c sound h = refl
+window_sound f mapping frame (Ok parts) c sound h =
+    let cells = map_found (each (λ p. made (outcome_on f (rows_of_frame frame p))) parts) (λ cs. window_cell mapping (height frame) (zip parts cs)) c h in
+    each_sound (λ p. made (outcome_on f (rows_of_frame frame p))) parts cells.0 (λ p. faults_on f (rows_of_frame frame p)) sound cells.1
+
+-- an expression that has a value has no fault
+mutual
+  pub value_sound : (e : Tree) (frame : Frame) (c : Cell) → value_on e frame ≡ Some c → faults_on e frame ≡ []
+  value_sound (column n) frame c h = refl
+  value_sound (literal v) frame c h = no_fault (outcome_on (literal v) frame) c h
+  value_sound (alias e n) frame c h = let a = map_found (made (outcome_on e frame)) Ok c h in value_sound e frame a.0 a.1
+  value_sound (binary l op r) frame c h =
+      let k = made_bound (kind_in l (scope_of frame)) _ c h in
+      let a = made_bound (made (outcome_on l frame)) _ c k.2 in
+      let b = made_bound (made (outcome_on r frame)) _ c a.2 in
+      λ i. value_sound l frame a.0 a.1 i ++ value_sound r frame b.0 b.1 i ++ no_fault (outcome_on (binary l op r) frame) c h i
+  value_sound (ternary p a b) frame c h =
+      let t = made_bound (made (outcome_on p frame)) _ c h in
+      let x = made_bound (made (outcome_on a frame)) _ c t.2 in
+      let y = made_bound (made (outcome_on b frame)) _ c x.2 in
+      λ i. value_sound p frame t.0 t.1 i ++ value_sound a frame x.0 x.1 i ++ value_sound b frame y.0 y.1 i ++ no_fault (outcome_on (ternary p a b) frame) c h i
+  value_sound (cast e to options) frame c h =
+      let k = made_bound (kind_in e (scope_of frame)) _ c h in
+      let a = made_bound (made (outcome_on e frame)) _ c k.2 in
+      λ i. value_sound e frame a.0 a.1 i ++ no_fault (outcome_on (cast e to options) frame) c h i
+  value_sound (function es f) frame c h =
+      let ks = made_bound (kinds_in es (scope_of frame)) _ c h in
+      let cs = made_bound (cells_on es frame) _ c ks.2 in
+      λ i. cells_sound es frame cs.0 cs.1 i ++ no_fault (outcome_on (function es f) frame) c h i
+  value_sound (filter e by) frame c h =
+      let a = made_bound (made (outcome_on e frame)) _ c h in
+      let m = made_bound (made (outcome_on by frame)) _ c a.2 in
+      λ i. value_sound e frame a.0 a.1 i ++ value_sound by frame m.0 m.1 i ++ no_fault (outcome_on (filter e by) frame) c h i
+  value_sound (slice e offset length) frame c h =
+      let a = made_bound (made (outcome_on e frame)) _ c h in
+      let o = made_bound (made (outcome_on offset frame)) _ c a.2 in
+      let l = made_bound (made (outcome_on length frame)) _ c o.2 in
+      λ i. value_sound e frame a.0 a.1 i ++ value_sound offset frame o.0 o.1 i ++ value_sound length frame l.0 l.1 i ++ no_fault (outcome_on (slice e offset length) frame) c h i
+  value_sound (gather e idx one) frame c h =
+      let a = made_bound (made (outcome_on e frame)) _ c h in
+      let j = made_bound (made (outcome_on idx frame)) _ c a.2 in
+      λ i. value_sound e frame a.0 a.1 i ++ value_sound idx frame j.0 j.1 i ++ no_fault (outcome_on (gather e idx one) frame) c h i
+  value_sound (sort e options) frame c h = let a = made_bound (made (outcome_on e frame)) _ c h in value_sound e frame a.0 a.1
+  value_sound (sort_by e by options) frame c h =
+      let a = made_bound (made (outcome_on e frame)) _ c h in
+      let ks = made_bound (cells_on by frame) _ c a.2 in
+      λ i. value_sound e frame a.0 a.1 i ++ cells_sound by frame ks.0 ks.1 i ++ no_fault (outcome_on (sort_by e by options) frame) c h i
+  value_sound (agg m e) frame c h =
+      let k = made_bound (kind_in e (scope_of frame)) _ c h in
+      let a = made_bound (made (outcome_on e frame)) _ c k.2 in
+      value_sound e frame a.0 a.1
+  value_sound len frame c h = refl
+  value_sound (window f keys order mapping) frame c h =
+      let found = made_bound (window_parts (named_on keys frame) (order_on order frame) frame) _ c h in
+      let by = bound (named_on keys frame) _ found.0 found.1 in
+      let o = bound (order_on order frame) _ found.0 by.2 in
+      let of_parts : flat_map (λ p. faults_on f (rows_of_frame frame p)) (parts_on keys order frame) ≡ [] =
+      (λ i. flat_map (λ p. faults_on f (rows_of_frame frame p)) (parts_in (found.1 i))) ∙ window_sound f mapping frame found.0 c (λ p d e. value_sound f (rows_of_frame frame p) d e) found.2 in
+      λ i. named_sound keys frame by.0 by.1 i ++ order_sound order frame o.0 o.1 i ++ of_parts i ++ no_fault (outcome_on (window f keys order mapping) frame) c h i
+
+  cells_sound : (es : Trees) (frame : Frame) (cs : List Cell) → cells_on es frame ≡ Some cs → all_faults_on es frame ≡ []
+  cells_sound no_trees frame cs h = refl
+  cells_sound (one_tree t ts) frame cs h =
+      let a = bound (made (outcome_on t frame)) _ cs h in
+      let rest = bound (cells_on ts frame) _ cs a.2 in
+      λ i. value_sound t frame a.0 a.1 i ++ cells_sound ts frame rest.0 rest.1 i
+
+  named_sound : (es : Trees) (frame : Frame) (cs : List NamedCell) → named_on es frame ≡ Some cs → all_faults_on es frame ≡ []
+  named_sound no_trees frame cs h = refl
+  named_sound (one_tree t ts) frame cs h =
+      let first = bound (made (outcome_on t frame) >>= named t frame) _ cs h in
+      let a = bound (made (outcome_on t frame)) (named t frame) first.0 first.1 in
+      let rest = bound (named_on ts frame) _ cs first.2 in
+      λ i. value_sound t frame a.0 a.1 i ++ named_sound ts frame rest.0 rest.1 i
+
+  order_sound : (order : Order) (frame : Frame) (o : OrderCell) → order_on order frame ≡ Some o → order_faults_on order frame ≡ []
+  order_sound no_order frame o h = refl
+  order_sound (ordered t options) frame o h =
+      let n = mapped (made (outcome_on t frame) >>= named t frame) (λ c. Some (c, options)) o h in
+      let a = bound (made (outcome_on t frame)) (named t frame) n.0 n.1 in
+      value_sound t frame a.0 a.1
+
+-- an expression that is not refused and has no fault has a value
+pub value_is_there : (e : Tree) (frame : Frame) → refusals_of e (scope_of frame) Default ≡ [] → faults_on e frame ≡ [] → IsSome (value_on e frame)
+value_is_there e frame r h = let c = value_there e frame Default r h in ap is_some c.1

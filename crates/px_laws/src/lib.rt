@@ -1,8 +1,14 @@
-//! Laws of what expressions mean. A function here does nothing: its clause is the law, for each expression.
+//! Laws of what expressions mean. A function here does nothing: its clauses are laws.
 #![tactic(auto)]
 
+mod parts;
 mod value;
 
+pub use parts::{
+    group_rows_are_the_frame, ordered_parts_hold_each_row_once, parts_are_the_rows_of_a_key,
+    parts_hold_each_row_once, parts_stand_by_their_first_rows, spread_keeps_equal_lengths,
+};
 pub use value::{
-    alias_changes_the_name_alone, value_has_its_shape, value_needs_no_external_column,
+    accepted_without_fault_has_value, alias_changes_the_name_alone, value_has_its_shape,
+    value_has_no_fault, value_needs_no_external_column,
 };

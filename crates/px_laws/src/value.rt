@@ -1,15 +1,18 @@
 //! Laws of the value of an expression.
-ghost use Rattle.std.specs.Prelude.{◌≡◌, List, ℕ, Some, true};
+ghost use Rattle.std.specs.Prelude.{◌≡◌, List, [], ℕ, Some, true};
+ghost use Rattle.std.specs.Option.{IsSome};
 ghost use Rattle.px_column.specs.Series.{Series};
 ghost use Rattle.px_frame.specs.Cell.{Cell};
-ghost use Rattle.px_frame.specs.External.{Frame};
+ghost use Rattle.px_frame.specs.External.{Frame, scope_of};
 ghost use Rattle.px_plan.specs.Node.{is_unit_cell};
 ghost use Rattle.px_laws.specs.Beside.{are_columns_of, beside};
 ghost use Rattle.px_plan.specs.Nodes.{leaf_names};
 ghost use Rattle.px_plan.specs.Shape.{is_unit, name_of};
 ghost use Rattle.px_plan.specs.Tree.{alias};
-ghost use Rattle.px_plan.specs.Value.{value_on};
+ghost use Rattle.px_plan.specs.Typing.{refusals_of};
+ghost use Rattle.px_plan.specs.Value.{faults_on, value_on};
 ghost use Rattle.px_plan.specs.View.{tree};
+ghost use Rattle.px_plan.specs.declared.context.Context.TheVariants.{Default};
 
 use px_plan::Expr;
 
@@ -35,6 +38,23 @@ pub fn alias_changes_the_name_alone(expr: &Expr)
 pub fn value_needs_no_external_column(expr: &Expr)
     ensures { (columns a b : List Series) → are_columns_of columns (leaf_names (tree expr.now)) ≡ true
         → value_on (tree expr.now) (beside columns a) ≡ value_on (tree expr.now) (beside columns b) }
+{
+    let _ = expr;
+}
+
+/// An expression that is not refused has a value on each frame on which it has no fault.
+#[tactic(auto, using(crate::proofs::Defined::value_is_there))]
+pub fn accepted_without_fault_has_value(expr: &Expr)
+    ensures { (frame : Frame) → refusals_of (tree expr.now) (scope_of frame) Default ≡ []
+        → faults_on (tree expr.now) frame ≡ [] → IsSome (value_on (tree expr.now) frame) }
+{
+    let _ = expr;
+}
+
+/// And an expression that has a value on a frame has no fault there.
+#[tactic(auto, using(crate::proofs::Defined::value_sound))]
+pub fn value_has_no_fault(expr: &Expr)
+    ensures { (frame : Frame) (c : Cell) → value_on (tree expr.now) frame ≡ Some c → faults_on (tree expr.now) frame ≡ [] }
 {
     let _ = expr;
 }
