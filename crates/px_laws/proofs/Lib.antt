@@ -2,3 +2,4 @@ pub mod Shapes
 pub mod Beside
 pub mod KindThere
 pub mod Defined
+pub mod Joining
