@@ -231,3 +231,216 @@ cast_joins from to o c d (two_lists xs ys) h g =
     let es = both_ok (items_cast to o (slots ys)) u.0 u.1 in
     let all = items_join from to o xs ys ds.0 es.0 ds.1 es.1 in
     as_lists _ t.0 u.0 c d ((λ i. result_map_both items (λ e. e) (all.1 i) >>> λ x. Ok (rows x)) ∙ ap (λ zs. Ok (rows zs)) (all.2 ∙ (λ i. ds.2 i ++ es.2 i))) (cc (t.2)) (cc (u.2))
+
+neither : (a b : Bool) → (a || b) ≡ false → (a ≡ false) × (b ≡ false)
+neither true b h = cc
+neither false b h = (refl, h)
+
+pub both_true : (a b : Bool) → (a && b) ≡ true → (a ≡ true) × (b ≡ true)
+both_true true b h = (refl, h)
+both_true false b h = cc
+
+pub no_misfits : (frame : Frame) (xs ys : List (List ℕ)) → list_any (is_misfit frame) (xs ++ ys) ≡ false → (list_any (is_misfit frame) xs ≡ false) × (list_any (is_misfit frame) ys ≡ false)
+no_misfits frame xs ys h = neither _ _ (sym (list_any-append (is_misfit frame) xs ys) ∙ h)
+
+-- a column's rows, where it has the frame's height
+look_columns : (n : List ℕ) (columns : List Series) (p : List ℕ) → look n (map (series_at p) columns) ≡ option_map (series_at p) (look n columns)
+look_columns n [] p = refl
+look_columns n (s ∷ columns) p = by (has_name n s) (look_columns n columns p)
+  where
+    by : (b : Bool) → find (has_name n) (map (series_at p) columns) ≡ option_map (series_at p) (find (has_name n) columns)
+        → cond b (Some (series_at p s)) (find (has_name n) (map (series_at p) columns)) ≡ option_map (series_at p) (cond b (Some s) (find (has_name n) columns))
+    by true rest = refl
+    by false rest = rest
+
+same_name : (n : List ℕ) (h : ℕ) (p : List ℕ) (s : Series) → has_name n (external_at h p s) ≡ has_name n s
+same_name n h p s = by (length s.slots == h)
+  where
+    by : (b : Bool) → has_name n (cond b (series_at p s) s) ≡ has_name n s
+    by true = refl
+    by false = refl
+
+look_external : (n : List ℕ) (h : ℕ) (external : List Series) (p : List ℕ) → look n (map (external_at h p) external) ≡ option_map (external_at h p) (look n external)
+look_external n h [] p = refl
+look_external n h (s ∷ external) p =
+    ap (λ b. cond b (Some (external_at h p s)) (find (has_name n) (map (external_at h p) external))) (same_name n h p s) ∙ by (has_name n s) (look_external n h external p)
+  where
+    by : (b : Bool) → find (has_name n) (map (external_at h p) external) ≡ option_map (external_at h p) (find (has_name n) external)
+        → cond b (Some (external_at h p s)) (find (has_name n) (map (external_at h p) external)) ≡ option_map (external_at h p) (cond b (Some s) (find (has_name n) external))
+    by true rest = refl
+    by false rest = rest
+
+is_true_not : (b : Bool) → not b ≡ false → b ≡ true
+is_true_not true h = refl
+is_true_not false h = cc
+
+pub look_rows : (n : List ℕ) (frame : Frame) (p : List ℕ) → is_misfit frame n ≡ false → look_in n (rows_of_frame frame p) ≡ option_map (series_at p) (look_in n frame)
+look_rows n frame p h =
+    (λ i. option_or (look_columns n frame.columns p i) (look_external n (height frame) frame.external p i)) ∙ by (look n frame.columns) (look n frame.external) h
+  where
+    by : (o e : Option Series) → (not (is_some o) && option_map_or (λ (s : Series). not (has_height (height frame) s)) e false) ≡ false
+        → option_or (option_map (series_at p) o) (option_map (external_at (height frame) p) e) ≡ option_map (series_at p) (option_or o e)
+    by (Some s) e g = refl
+    by None None g = refl
+    by None (Some s) g = ap (λ b. Some (cond b (series_at p s) s)) (is_true_not (length s.slots == height frame) g)
+
+-- a column's values on some rows
+pub column_rows : (n : List ℕ) (frame : Frame) (p : List ℕ) → is_misfit frame n ≡ false → value_on (column n) (rows_of_frame frame p) ≡ option_map (λ (s : Series). rows (slots_at s.slots p)) (look_in n frame)
+column_rows n frame p h = ap (λ o. made (option_map (λ (s : Series). Ok (rows s.slots)) o)) (look_rows n frame p h) ∙ by (look_in n frame)
+  where
+    by : (o : Option Series) → made (option_map (λ (s : Series). Ok (rows s.slots)) (option_map (series_at p) o)) ≡ option_map (λ (s : Series). rows (slots_at s.slots p)) o
+    by None = refl
+    by (Some s) = refl
+
+pub under_name : (o : Option Cell) → made (option_map Ok o) ≡ o
+under_name None = refl
+under_name (Some c) = refl
+
+-- what there is of a tree on some rows and on others, on both
+abbrev pub JointOn : Option Cell → Cell → Cell → Type 0
+JointOn o a b = (o ≡ Some (joined a b)) × Alike a b
+
+of_result : (o : Option (Result Cell PxError)) (r : Result Cell PxError) (a b : Cell) → o ≡ Some r → Joint r a b → JointOn (made o) a b
+of_result o r a b h j = (ap made h ∙ ap (λ x. made (Some x)) j.0, j.1)
+
+column_joins : (o : Option Series) (x : Option Cell) (p q : List ℕ) (a b : Cell) → x ≡ option_map (λ (s : Series). rows (slots_at s.slots (p ++ q))) o
+    → option_map (λ (s : Series). rows (slots_at s.slots p)) o ≡ Some a → option_map (λ (s : Series). rows (slots_at s.slots q)) o ≡ Some b → JointOn x a b
+column_joins None x p q a b e h g = cc
+column_joins (Some s) x p q a b e h g =
+    let ea : rows (slots_at s.slots p) ≡ a = cc in
+    let eb : rows (slots_at s.slots q) ≡ b = cc in
+    let j = as_lists (Ok (rows (slots_at s.slots (p ++ q)))) (slots_at s.slots p) (slots_at s.slots q) a b (ap (λ zs. Ok (rows zs)) (map-append (slot_at s.slots) p q)) ea eb in
+    (e ∙ ap (λ r. made (Some r)) j.0, j.1)
+
+literal_joins : (v : Literal) (s : Scope) (frame : Frame) (a b : Cell) → is_elementwise (literal v) s ≡ true → value_on (literal v) frame ≡ Some a → value_on (literal v) frame ≡ Some b → JointOn (value_on (literal v) frame) a b
+literal_joins (single k x) s frame a b e h g = let j = as_units (Ok (unit x)) x a b refl (cc) (cc) in (ap (λ r. made (Some r)) j.0, j.1)
+literal_joins (range low high k) s frame a b e h g = cc
+literal_joins (series t) s frame a b e h g = cc
+
+function_joins : (f : FunctionExpr) (k : Kind) {cs ds : List Cell} (c d : Cell) → is_row_function f ≡ true → AllAlike cs ds → function_cell f k cs ≡ Ok c → function_cell f k ds ≡ Ok d → Joint (function_cell f k (all_joined cs ds)) c d
+function_joins IsNull k c d e none_alike h g = cc
+function_joins IsNull k c d e (more_alike a b cs ds s none_alike) h g = map_joins is_null_slot c d s (cc) (cc)
+function_joins IsNull k c d e (more_alike a b cs ds s (more_alike u v es fs t more)) h g = cc
+function_joins IsNotNull k c d e none_alike h g = cc
+function_joins IsNotNull k c d e (more_alike a b cs ds s none_alike) h g = map_joins is_not_null_slot c d s (cc) (cc)
+function_joins IsNotNull k c d e (more_alike a b cs ds s (more_alike u v es fs t more)) h g = cc
+function_joins Not k c d e none_alike h g = cc
+function_joins Not k c d e (more_alike a b cs ds s none_alike) h g = map_joins not_slot c d s (cc) (cc)
+function_joins Not k c d e (more_alike a b cs ds s (more_alike u v es fs t more)) h g = cc
+function_joins (IsBetween closed) k c d e none_alike h g = cc
+function_joins (IsBetween closed) k c d e (more_alike a b cs ds s none_alike) h g = cc
+function_joins (IsBetween closed) k c d e (more_alike a b cs ds s (more_alike u v es fs t none_alike)) h g = cc
+function_joins (IsBetween closed) k c d e (more_alike a b cs ds s (more_alike u v es fs t (more_alike x y gs hs r none_alike))) h g = zip_three_joins (between_slot k closed) c d s t r h g
+function_joins (IsBetween closed) k c d e (more_alike a b cs ds s (more_alike u v es fs t (more_alike x y gs hs r (more_alike w z is js q more)))) h g = cc
+function_joins IsIn k c d e more h g = cc
+function_joins Reverse k c d e more h g = cc
+function_joins (Shift n) k c d e more h g = cc
+function_joins DropNulls k c d e more h g = cc
+function_joins NullCount k c d e more h g = cc
+function_joins Explode k c d e more h g = cc
+
+-- the types of a tree on the rows of a frame are those on others
+same_kind : (e : Tree) (frame : Frame) (p q : List ℕ) (j k : Kind) → kind_in e (scope_of (rows_of_frame frame p)) ≡ Some j → kind_in e (scope_of (rows_of_frame frame q)) ≡ Some k → k ≡ j
+same_kind e frame p q j k h g = let same : Some k ≡ Some j = sym g ∙ ap (kind_in e) (scope-rows frame q ∙ sym (scope-rows frame p)) ∙ h in cc
+
+kind_on : (e : Tree) (frame : Frame) (p q : List ℕ) (k : Option Kind) → kind_in e (scope_of (rows_of_frame frame p)) ≡ k → kind_in e (scope_of (rows_of_frame frame q)) ≡ k
+kind_on e frame p q k h = ap (kind_in e) (scope-rows frame q ∙ sym (scope-rows frame p)) ∙ h
+
+kinds_on : (es : Trees) (frame : Frame) (p q : List ℕ) (k : Option (List Kind)) → kinds_in es (scope_of (rows_of_frame frame p)) ≡ k → kinds_in es (scope_of (rows_of_frame frame q)) ≡ k
+kinds_on es frame p q k h = ap (kinds_in es) (scope-rows frame q ∙ sym (scope-rows frame p)) ∙ h
+
+same_kinds : (es : Trees) (frame : Frame) (p q : List ℕ) (j k : List Kind) → kinds_in es (scope_of (rows_of_frame frame p)) ≡ Some j → kinds_in es (scope_of (rows_of_frame frame q)) ≡ Some k → k ≡ j
+same_kinds es frame p q j k h g = let same : Some k ≡ Some j = sym (kinds_on es frame q p (Some k) g) ∙ h in cc
+
+mutual
+  pub value_joins : (e : Tree) (s : Scope) (frame : Frame) (p q : List ℕ) (a b : Cell) → is_elementwise e s ≡ true → list_any (is_misfit frame) (leaf_names e) ≡ false
+      → value_on e (rows_of_frame frame p) ≡ Some a → value_on e (rows_of_frame frame q) ≡ Some b → JointOn (value_on e (rows_of_frame frame (p ++ q))) a b
+  value_joins (column n) s frame p q a b w m h g =
+      let fit = (neither (is_misfit frame n) false m).0 in
+      column_joins (look_in n frame) _ p q a b (column_rows n frame (p ++ q) fit) (sym (column_rows n frame p fit) ∙ h) (sym (column_rows n frame q fit) ∙ g)
+  value_joins (literal v) s frame p q a b w m h g = literal_joins v s frame a b w h g
+  value_joins (alias e n) s frame p q a b w m h g =
+      let j = value_joins e s frame p q a b w m (sym (under_name _) ∙ h) (sym (under_name _) ∙ g) in
+      (under_name _ ∙ j.0, j.1)
+  value_joins (binary l op r) s frame p q a b w m h g =
+      let ew = both_true (is_elementwise l s) (is_elementwise r s) w in
+      let ms = no_misfits frame (leaf_names l) (leaf_names r) m in
+      let k = made_bound (kind_in l (scope_of (rows_of_frame frame p))) _ a h in
+      let x = made_bound (made (outcome_on l (rows_of_frame frame p))) _ a k.2 in
+      let y = made_bound (made (outcome_on r (rows_of_frame frame p))) _ a x.2 in
+      let j = made_bound (kind_in l (scope_of (rows_of_frame frame q))) _ b g in
+      let u = made_bound (made (outcome_on l (rows_of_frame frame q))) _ b j.2 in
+      let v = made_bound (made (outcome_on r (rows_of_frame frame q))) _ b u.2 in
+      let left = value_joins l s frame p q x.0 u.0 ew.0 ms.0 x.1 u.1 in
+      let right = value_joins r s frame p q y.0 v.0 ew.1 ms.1 y.1 v.1 in
+      let after = subst (λ i. binary_cell i op u.0 v.0 ≡ Ok b) (same_kind l frame p q k.0 j.0 k.1 j.1) (made_ok _ b v.2) in
+      of_result _ (binary_cell k.0 op (joined x.0 u.0) (joined y.0 v.0)) a b
+      (λ i. kind_on l frame p (p ++ q) (Some k.0) k.1 i >>= λ t. left.0 i >>= λ c. right.0 i >>= λ d. Some (binary_cell t op c d))
+      (zip_joins (operated k.0 op) a b left.1 right.1 (made_ok _ a y.2) after)
+  value_joins (ternary t l r) s frame p q a b w m h g =
+      let ew = both_true (is_elementwise t s) (is_elementwise l s && is_elementwise r s) w in
+      let ev = both_true (is_elementwise l s) (is_elementwise r s) ew.1 in
+      let ms = no_misfits frame (leaf_names t) (leaf_names l ++ leaf_names r) m in
+      let ns = no_misfits frame (leaf_names l) (leaf_names r) ms.1 in
+      let k = made_bound (made (outcome_on t (rows_of_frame frame p))) _ a h in
+      let x = made_bound (made (outcome_on l (rows_of_frame frame p))) _ a k.2 in
+      let y = made_bound (made (outcome_on r (rows_of_frame frame p))) _ a x.2 in
+      let j = made_bound (made (outcome_on t (rows_of_frame frame q))) _ b g in
+      let u = made_bound (made (outcome_on l (rows_of_frame frame q))) _ b j.2 in
+      let v = made_bound (made (outcome_on r (rows_of_frame frame q))) _ b u.2 in
+      let mask = value_joins t s frame p q k.0 j.0 ew.0 ms.0 k.1 j.1 in
+      let left = value_joins l s frame p q x.0 u.0 ev.0 ns.0 x.1 u.1 in
+      let right = value_joins r s frame p q y.0 v.0 ev.1 ns.1 y.1 v.1 in
+      of_result _ (ternary_cell (joined k.0 j.0) (joined x.0 u.0) (joined y.0 v.0)) a b
+      (λ i. mask.0 i >>= λ z. left.0 i >>= λ c. right.0 i >>= λ d. Some (ternary_cell z c d))
+      (zip_three_joins chosen a b mask.1 left.1 right.1 (made_ok _ a y.2) (made_ok _ b v.2))
+  value_joins (cast e to o) s frame p q a b w m h g =
+      let k = made_bound (kind_in e (scope_of (rows_of_frame frame p))) _ a h in
+      let x = made_bound (made (outcome_on e (rows_of_frame frame p))) _ a k.2 in
+      let j = made_bound (kind_in e (scope_of (rows_of_frame frame q))) _ b g in
+      let u = made_bound (made (outcome_on e (rows_of_frame frame q))) _ b j.2 in
+      let inner = value_joins e s frame p q x.0 u.0 w m x.1 u.1 in
+      let after = subst (λ i. cast_cell i to o u.0 ≡ Ok b) (same_kind e frame p q k.0 j.0 k.1 j.1) (made_ok _ b u.2) in
+      of_result _ (cast_cell k.0 to o (joined x.0 u.0)) a b
+      (λ i. kind_on e frame p (p ++ q) (Some k.0) k.1 i >>= λ t. inner.0 i >>= λ c. Some (cast_cell t to o c))
+      (cast_joins k.0 to o a b inner.1 (made_ok _ a x.2) after)
+  value_joins (function es f) s frame p q a b w m h g =
+      let ew = both_true (is_row_function f) (are_elementwise es s) w in
+      let k = made_bound (kinds_in es (scope_of (rows_of_frame frame p))) _ a h in
+      let x = made_bound (cells_on es (rows_of_frame frame p)) _ a k.2 in
+      let j = made_bound (kinds_in es (scope_of (rows_of_frame frame q))) _ b g in
+      let u = made_bound (cells_on es (rows_of_frame frame q)) _ b j.2 in
+      let inner = cells_join es s frame p q x.0 u.0 ew.1 m x.1 u.1 in
+      let after = subst (λ i. function_cell f (first_kind i) u.0 ≡ Ok b) (same_kinds es frame p q k.0 j.0 k.1 j.1) (made_ok _ b u.2) in
+      of_result _ (function_cell f (first_kind k.0) (all_joined x.0 u.0)) a b
+      (λ i. kinds_on es frame p (p ++ q) (Some k.0) k.1 i >>= λ t. inner.0 i >>= λ c. Some (function_cell f (first_kind t) c))
+      (function_joins f (first_kind k.0) a b ew.0 inner.1 (made_ok _ a x.2) after)
+  value_joins (filter e by) s frame p q a b w m h g = cc
+  value_joins (slice e offset size) s frame p q a b w m h g = cc
+  value_joins (gather e idx one) s frame p q a b w m h g = cc
+  value_joins (sort e o) s frame p q a b w m h g = cc
+  value_joins (sort_by e by o) s frame p q a b w m h g = cc
+  value_joins (agg f e) s frame p q a b w m h g = cc
+  value_joins len s frame p q a b w m h g = cc
+  value_joins (window f keys order mapping) s frame p q a b w m h g = cc
+
+  cells_join : (es : Trees) (s : Scope) (frame : Frame) (p q : List ℕ) (xa xb : List Cell) → are_elementwise es s ≡ true → list_any (is_misfit frame) (all_leaf_names es) ≡ false
+      → cells_on es (rows_of_frame frame p) ≡ Some xa → cells_on es (rows_of_frame frame q) ≡ Some xb → (cells_on es (rows_of_frame frame (p ++ q)) ≡ Some (all_joined xa xb)) × AllAlike xa xb
+  cells_join no_trees s frame p q xa xb w m h g =
+      let ea : [] ≡ xa = cc in
+      let eb : [] ≡ xb = cc in
+      subst (λ (xs : List Cell). (Some [] ≡ Some (all_joined xs xb)) × AllAlike xs xb) ea (subst (λ (ys : List Cell). (Some [] ≡ Some (all_joined [] ys)) × AllAlike [] ys) eb (refl, none_alike))
+  cells_join (one_tree t ts) s frame p q xa xb w m h g =
+      let ew = both_true (is_elementwise t s) (are_elementwise ts s) w in
+      let ms = no_misfits frame (leaf_names t) (all_leaf_names ts) m in
+      let x = bound (made (outcome_on t (rows_of_frame frame p))) _ xa h in
+      let xs = bound (cells_on ts (rows_of_frame frame p)) _ xa x.2 in
+      let u = bound (made (outcome_on t (rows_of_frame frame q))) _ xb g in
+      let us = bound (cells_on ts (rows_of_frame frame q)) _ xb u.2 in
+      let one = value_joins t s frame p q x.0 u.0 ew.0 ms.0 x.1 u.1 in
+      let more = cells_join ts s frame p q xs.0 us.0 ew.1 ms.1 xs.1 us.1 in
+      let ea : x.0 ∷ xs.0 ≡ xa = cc (xs.2) in
+      let eb : u.0 ∷ us.0 ≡ xb = cc (us.2) in
+      let whole : cells_on (one_tree t ts) (rows_of_frame frame (p ++ q)) ≡ Some (joined x.0 u.0 ∷ all_joined xs.0 us.0) = (λ i. one.0 i >>= λ c. more.0 i >>= λ cs. Some (c ∷ cs)) in
+      let Goal : List Cell → List Cell → Type 0 = λ cs ds. (cells_on (one_tree t ts) (rows_of_frame frame (p ++ q)) ≡ Some (all_joined cs ds)) × AllAlike cs ds in
+      subst (λ cs. Goal cs xb) ea (subst (λ ds. Goal (x.0 ∷ xs.0) ds) eb (whole, more_alike x.0 u.0 xs.0 us.0 one.1 more.1))
