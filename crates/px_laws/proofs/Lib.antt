@@ -3,3 +3,4 @@ pub mod Beside
 pub mod KindThere
 pub mod Defined
 pub mod Joining
+pub mod Sums
