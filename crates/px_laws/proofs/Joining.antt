@@ -77,7 +77,7 @@ beside_joins none_alike h = cc
 beside_joins (more_alike a b cs ds (same_unit s) more) h = beside_joins more h
 beside_joins (more_alike a b cs ds (two_lists xs ys) more) h = length-append xs ys
 
-same_list : (n : ℕ) (xs ys : List Slot) → spread n (rows xs) ≡ Ok ys → (xs ≡ ys) × (length xs ≡ n)
+pub same_list : (n : ℕ) (xs ys : List Slot) → spread n (rows xs) ≡ Ok ys → (xs ≡ ys) × (length xs ≡ n)
 same_list n xs ys h = by (length xs == n) refl h
   where
     by : (b : Bool) → (length xs == n) ≡ b → cond b (Ok xs) (Err ShapeMismatch) ≡ Ok ys → (xs ≡ ys) × (length xs ≡ n)
@@ -104,7 +104,7 @@ zip_append [] us (y ∷ ys) vs h = absurd (omega arith)
 zip_append (x ∷ xs) us [] vs h = absurd (omega arith)
 zip_append (x ∷ xs) us (y ∷ ys) vs h = ap (λ ps. (x, y) ∷ ps) (zip_append xs us ys vs (omega arith))
 
-length_zip : {A B : Type 0} (xs : List A) (ys : List B) → length xs ≡ length ys → length (zip xs ys) ≡ length xs
+pub length_zip : {A B : Type 0} (xs : List A) (ys : List B) → length xs ≡ length ys → length (zip xs ys) ≡ length xs
 length_zip [] ys h = refl
 length_zip (x ∷ xs) [] h = absurd (omega arith)
 length_zip (x ∷ xs) (y ∷ ys) h = ap suc (length_zip xs ys (omega arith))
@@ -191,7 +191,7 @@ map_joins f c d (same_unit s) h g = as_units _ (f s) c d refl h g
 map_joins f c d (two_lists xs ys) h g = as_lists _ (map f xs) (map f ys) c d (ap (λ zs. Ok (rows zs)) (map-append f xs ys)) h g
 
 -- a place before others in another type
-before_parts : (r : Result Slot PxError) (q : Result Slots PxError) (ds : Slots) → before r q ≡ Ok ds → (s : Slot) × (ts : Slots) × (r ≡ Ok s) × (q ≡ Ok ts) × (items ds ≡ s ∷ items ts)
+pub before_parts : (r : Result Slot PxError) (q : Result Slots PxError) (ds : Slots) → before r q ≡ Ok ds → (s : Slot) × (ts : Slots) × (r ≡ Ok s) × (q ≡ Ok ts) × (items ds ≡ s ∷ items ts)
 before_parts (Err e) q ds h = cc
 before_parts (Ok s) (Err e) ds h = cc
 before_parts (Ok None) (Ok ts) ds h = let e : ds ≡ absent ts = cc in (None, ts, refl, refl, ap items e)
@@ -201,7 +201,7 @@ before_made : (s : Slot) (ts : Slots) → (gs : Slots) × (before (Ok s) (Ok ts)
 before_made None ts = (absent ts, refl, refl)
 before_made (Some d) ts = (present d ts, refl, refl)
 
-items_first : (from to : Kind) (o : CastOptions) (x : Slot) (xs : List Slot) → items_cast to o (slots (x ∷ xs)) ≡ before (cast_slot from to o x) (items_cast to o (slots xs))
+pub items_first : (from to : Kind) (o : CastOptions) (x : Slot) (xs : List Slot) → items_cast to o (slots (x ∷ xs)) ≡ before (cast_slot from to o x) (items_cast to o (slots xs))
 items_first from to o None xs = refl
 items_first from to o (Some d) xs = refl
 
@@ -214,7 +214,7 @@ items_join from to o (x ∷ xs) ys ds es h g =
     let all = before_made p.0 rest.0 in
     (all.0, items_first from to o x (xs ++ ys) ∙ (λ i. before (p.2 i) (rest.1 i)) ∙ all.1, all.2 ∙ ap (λ zs. p.0 ∷ zs) rest.2 ∙ ap (λ zs. zs ++ items es) (sym p.4))
 
-both_ok : (r : Result Slots PxError) (xs : List Slot) → result_map_both items (λ e. e) r ≡ Ok xs → (ds : Slots) × (r ≡ Ok ds) × (items ds ≡ xs)
+pub both_ok : (r : Result Slots PxError) (xs : List Slot) → result_map_both items (λ e. e) r ≡ Ok xs → (ds : Slots) × (r ≡ Ok ds) × (items ds ≡ xs)
 both_ok (Ok ds) xs h = (ds, refl, cc)
 both_ok (Err e) xs h = cc
 
@@ -232,7 +232,7 @@ cast_joins from to o c d (two_lists xs ys) h g =
     let all = items_join from to o xs ys ds.0 es.0 ds.1 es.1 in
     as_lists _ t.0 u.0 c d ((λ i. result_map_both items (λ e. e) (all.1 i) >>> λ x. Ok (rows x)) ∙ ap (λ zs. Ok (rows zs)) (all.2 ∙ (λ i. ds.2 i ++ es.2 i))) (cc (t.2)) (cc (u.2))
 
-neither : (a b : Bool) → (a || b) ≡ false → (a ≡ false) × (b ≡ false)
+pub neither : (a b : Bool) → (a || b) ≡ false → (a ≡ false) × (b ≡ false)
 neither true b h = cc
 neither false b h = (refl, h)
 

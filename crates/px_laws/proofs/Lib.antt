@@ -4,3 +4,4 @@ pub mod KindThere
 pub mod Defined
 pub mod Joining
 pub mod Sums
+pub mod RowCount
