@@ -5,3 +5,4 @@ pub mod Defined
 pub mod Joining
 pub mod Sums
 pub mod RowCount
+pub mod Merging

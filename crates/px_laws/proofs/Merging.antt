@@ -1,0 +1,233 @@
+-- The values of a partition safe expression on parts merge to that on all their rows.
+use Rattle.std.proofs.Common.{◌≡◌, ℕ, ◌+◌, ◌-◌, ◌^◌, ◌<◌, ◌≤◌, zero, suc, pos, Bool, true, false, cond, not, ◌&&◌, List, [], ◌∷◌, ◌++◌, Option, Some, None, Result, Ok, Err, option_map, length, map, subst, refl, sym, ◌∙◌, ap, arith}
+use Rattle.std.specs.List.{flat_map, list_all, list_any}
+use Rattle.std.proofs.lemmas.List.{append-nil, length-append, length-map}
+use Rattle.px_column.specs.Datum.{integer, list, Slot, slots, items, items-slots}
+use Rattle.px_column.specs.Kind.{Kind, booleans, int8s, int16s, int32s, int64s, uint8s, uint16s, uint32s, uint64s, strings, binaries, nulls, lists}
+use Rattle.px_column.specs.Option.{◌>>=◌, each}
+use Rattle.px_column.specs.Reduction.{reduced_kind, reduced_slot, count_slot, kind_there}
+use Rattle.px_column.specs.Series.{Series, slot_at}
+use Rattle.px_column.specs.Sum.{sum_kind, is_sum_kind, summed}
+use Rattle.px_column.specs.declared.error.PxError.{PxError}
+use Rattle.px_column.specs.declared.error.PxError.TheVariants.{ComputeError}
+use Rattle.px_column.specs.declared.error.ComputeWhy.TheVariants.{AggLiteral}
+use Rattle.px_column.specs.declared.method.GroupByMethod.{GroupByMethod}
+use Rattle.px_column.specs.declared.method.GroupByMethod.TheVariants.{Min, Max, Sum, First, Last, NUnique, Count, Implode}
+use Rattle.px_frame.specs.Cell.{Cell, unit, rows, value_of_cell}
+use Rattle.px_frame.specs.External.{Frame, height, scope_of, rows_of_frame}
+use Rattle.px_frame.specs.Frame.{height_of, series_at}
+use Rattle.px_plan.specs.Node.{is_unit_cell, function_cell, reduction_cell}
+use Rattle.px_plan.specs.Nodes.{leaf_names}
+use Rattle.px_plan.specs.Partition.{is_elementwise, are_elementwise, is_row_function, is_merged_method, is_partition_safe, rows_of_list, inner_rows, merged_by, merged}
+use Rattle.px_plan.specs.Shape.{is_unit, is_unit_first, are_units, is_implode, is_literal_tree, are_literal_trees, has_implode}
+use Rattle.px_plan.specs.Tree.{Tree, Trees, Literal, single, range, series, no_trees, one_tree, column, literal, alias, binary, ternary, cast, function, filter, slice, gather, sort, sort_by, agg, len, window}
+use Rattle.px_plan.specs.Typing.{Scope, kind_in, kinds_in, made_kind, refusals_of, refused_where, grouped_reduction_refusals, implode_refusal}
+use Rattle.px_plan.specs.Value.{value_on, outcome_on, made, cells_on, first_kind, is_misfit}
+use Rattle.px_plan.specs.declared.context.Context.TheVariants.{Aggregation}
+use Rattle.px_plan.specs.declared.function.FunctionExpr.{FunctionExpr}
+use Rattle.px_plan.specs.declared.function.FunctionExpr.TheVariants.{IsNull, IsNotNull, Not, IsBetween, IsIn, Reverse, Shift, DropNulls, NullCount, Explode}
+use Rattle.px_laws.proofs.Defined.{scope-rows}
+use Rattle.px_laws.proofs.Joining.{both_true, under_name, value_joins}
+use Rattle.px_laws.proofs.KindThere.{none_left, none_right, none_own}
+use Rattle.px_laws.proofs.RowCount.{value_long}
+use Rattle.px_laws.proofs.Shapes.{bound, made_bound, made_ok, shape_of_value}
+use Rattle.px_laws.proofs.Sums.{sum_merges, count_merges}
+use Rattle.px_laws.specs.Merge.{has_rows, are_parts, rows_of_parts, value_at, OnParts, is_extreme, PartsMerge}
+
+mapped : {A B : Type 0} (o : Option A) (f : A → B) (b : B) → option_map f o ≡ Some b → (a : A) × (o ≡ Some a) × (f a ≡ b)
+mapped None f b h = cc
+mapped (Some a) f b h = (a, refl, cc)
+
+each_same : {A B : Type 0} (f g : A → Option B) (xs : List A) → ((x : A) → f x ≡ g x) → each f xs ≡ each g xs
+each_same f g [] h = refl
+each_same f g (x ∷ xs) h = λ i. h x i >>= λ y. option_map (λ ys. y ∷ ys) (each_same f g xs h i)
+
+-- one cell comes from one tree
+one_unit : (es : Trees) (frame : Frame) (a : Cell) → is_unit_first es ≡ true → cells_on es frame ≡ Some (a ∷ []) → are_units es ≡ true
+one_unit no_trees frame a u h = cc
+one_unit (one_tree t no_trees) frame a u h = ap (λ b. b && true) u
+one_unit (one_tree t (one_tree r ts)) frame a u h =
+    let x = bound (made (outcome_on t frame)) _ (a ∷ []) h in
+    let xs = bound (cells_on (one_tree r ts) frame) _ (a ∷ []) x.2 in
+    let y = bound (made (outcome_on r frame)) _ xs.0 xs.1 in
+    let ys = bound (cells_on ts frame) _ xs.0 y.2 in
+    let e : y.0 ∷ ys.0 ≡ xs.0 = cc (ys.2) in
+    let g : x.0 ∷ xs.0 ≡ a ∷ [] = cc (xs.2) in
+    let none : y.0 ∷ ys.0 ≡ [] = cc in
+    cc
+
+-- a row function whose value is a unit has units alone
+all_units : (f : FunctionExpr) (k : Kind) (es : Trees) (frame : Frame) (cs : List Cell) (c : Cell) → is_row_function f ≡ true → is_unit (function es f) ≡ true → cells_on es frame ≡ Some cs → function_cell f k cs ≡ Ok c → are_units es ≡ true
+all_units IsNull k es frame [] c w u h g = cc
+all_units IsNull k es frame (a ∷ []) c w u h g = one_unit es frame a u h
+all_units IsNull k es frame (a ∷ b ∷ cs) c w u h g = cc
+all_units IsNotNull k es frame [] c w u h g = cc
+all_units IsNotNull k es frame (a ∷ []) c w u h g = one_unit es frame a u h
+all_units IsNotNull k es frame (a ∷ b ∷ cs) c w u h g = cc
+all_units Not k es frame [] c w u h g = cc
+all_units Not k es frame (a ∷ []) c w u h g = one_unit es frame a u h
+all_units Not k es frame (a ∷ b ∷ cs) c w u h g = cc
+all_units (IsBetween closed) k es frame cs c w u h g = u
+all_units IsIn k es frame cs c w u h g = cc
+all_units Reverse k es frame cs c w u h g = cc
+all_units (Shift n) k es frame cs c w u h g = cc
+all_units DropNulls k es frame cs c w u h g = cc
+all_units NullCount k es frame cs c w u h g = cc
+all_units Explode k es frame cs c w u h g = cc
+
+-- an elementwise unit is made of literals
+mutual
+  literal_unit : (e : Tree) (s : Scope) (frame : Frame) (c : Cell) → is_elementwise e s ≡ true → is_unit e ≡ true → value_on e frame ≡ Some c → is_literal_tree e ≡ true
+  literal_unit (column n) s frame c w u h = cc
+  literal_unit (literal v) s frame c w u h = refl
+  literal_unit (alias e n) s frame c w u h = literal_unit e s frame c w u (sym (under_name _) ∙ h)
+  literal_unit (binary l op r) s frame c w u h =
+      let ew = both_true (is_elementwise l s) (is_elementwise r s) w in
+      let eu = both_true (is_unit l) (is_unit r) u in
+      let k = made_bound (kind_in l (scope_of frame)) _ c h in
+      let x = made_bound (made (outcome_on l frame)) _ c k.2 in
+      let y = made_bound (made (outcome_on r frame)) _ c x.2 in
+      λ i. literal_unit l s frame x.0 ew.0 eu.0 x.1 i && literal_unit r s frame y.0 ew.1 eu.1 y.1 i
+  literal_unit (ternary t l r) s frame c w u h =
+      let ew = both_true (is_elementwise t s) (is_elementwise l s && is_elementwise r s) w in
+      let ev = both_true (is_elementwise l s) (is_elementwise r s) ew.1 in
+      let eu = both_true (is_unit t) (is_unit l && is_unit r) u in
+      let ex = both_true (is_unit l) (is_unit r) eu.1 in
+      let k = made_bound (made (outcome_on t frame)) _ c h in
+      let x = made_bound (made (outcome_on l frame)) _ c k.2 in
+      let y = made_bound (made (outcome_on r frame)) _ c x.2 in
+      λ i. literal_unit t s frame k.0 ew.0 eu.0 k.1 i && (literal_unit l s frame x.0 ev.0 ex.0 x.1 i && literal_unit r s frame y.0 ev.1 ex.1 y.1 i)
+  literal_unit (cast e to o) s frame c w u h =
+      let k = made_bound (kind_in e (scope_of frame)) _ c h in
+      let x = made_bound (made (outcome_on e frame)) _ c k.2 in
+      literal_unit e s frame x.0 w u x.1
+  literal_unit (function es f) s frame c w u h =
+      let ew = both_true (is_row_function f) (are_elementwise es s) w in
+      let k = made_bound (kinds_in es (scope_of frame)) _ c h in
+      let x = made_bound (cells_on es frame) _ c k.2 in
+      literal_units es s frame x.0 ew.1 (all_units f (first_kind k.0) es frame x.0 c ew.0 u x.1 (made_ok _ c x.2)) x.1
+  literal_unit (filter e by) s frame c w u h = cc
+  literal_unit (slice e offset size) s frame c w u h = cc
+  literal_unit (gather e idx one) s frame c w u h = cc
+  literal_unit (sort e o) s frame c w u h = cc
+  literal_unit (sort_by e by o) s frame c w u h = cc
+  literal_unit (agg f e) s frame c w u h = cc
+  literal_unit len s frame c w u h = cc
+  literal_unit (window f keys order mapping) s frame c w u h = cc
+
+  literal_units : (es : Trees) (s : Scope) (frame : Frame) (cs : List Cell) → are_elementwise es s ≡ true → are_units es ≡ true → cells_on es frame ≡ Some cs → are_literal_trees es ≡ true
+  literal_units no_trees s frame cs w u h = refl
+  literal_units (one_tree t ts) s frame cs w u h =
+      let ew = both_true (is_elementwise t s) (are_elementwise ts s) w in
+      let eu = both_true (is_unit t) (are_units ts) u in
+      let x = bound (made (outcome_on t frame)) _ cs h in
+      let xs = bound (cells_on ts frame) _ cs x.2 in
+      λ i. literal_unit t s frame x.0 ew.0 eu.0 x.1 i && literal_units ts s frame xs.0 ew.1 eu.1 xs.1 i
+
+not_refused : (b : Bool) (e : PxError) → refused_where b e ≡ [] → b ≡ false
+not_refused true e h = cc
+not_refused false e h = refl
+
+-- an elementwise expression that may be reduced on groups is a list
+reduced_list : (m : GroupByMethod) (e : Tree) (s : Scope) (frame : Frame) (c : Cell) → is_elementwise e s ≡ true → refusals_of (agg m e) s Aggregation ≡ [] → value_on e frame ≡ Some c → is_unit e ≡ false
+reduced_list m e s frame c w r h =
+    let grouped = none_left (grouped_reduction_refusals m e) _ (none_own (refusals_of e s Aggregation) _ r) in
+    let two = none_left (implode_refusal (has_implode e) ++ refused_where (is_literal_tree e) (ComputeError AggLiteral)) _ grouped in
+    let rest = not_refused (is_literal_tree e) (ComputeError AggLiteral) (none_right (implode_refusal (has_implode e)) _ two) in
+    by (is_unit e) refl rest
+  where
+    by : (b : Bool) → is_unit e ≡ b → is_literal_tree e ≡ false → is_unit e ≡ false
+    by false u other = u
+    by true u other = let never : true ≡ false = sym (literal_unit e s frame c w u h) ∙ other in cc
+
+-- the lists that an expression is on each part
+abbrev ListsOn : Tree → Frame → List (List ℕ) → List (List Slot) → Type 0
+ListsOn e frame [] [] = Unit {0}
+ListsOn e frame (p ∷ ps) (xs ∷ xss) = (value_on e (rows_of_frame frame p) ≡ Some (rows xs)) × ListsOn e frame ps xss
+ListsOn e frame _ _ = ⊥
+
+abbrev all_slots : List (List Slot) → List Slot
+all_slots xss = flat_map (λ xs. xs) xss
+
+-- a reduction's value on a list
+abbrev reduced_value : GroupByMethod → Kind → List Slot → Slot
+reduced_value m k xs = value_of_cell (reduction_cell m k (rows xs))
+
+list_cell : (c : Cell) → is_unit_cell c ≡ false → (xs : List Slot) × (c ≡ rows xs)
+list_cell (unit s) h = cc
+list_cell (rows xs) h = (xs, refl)
+
+-- on some rows, a reduction's value is that of its input's list
+reduced_at : (m : GroupByMethod) (e : Tree) (frame : Frame) (p : List ℕ) (j : Kind) (v : Slot) → is_elementwise e (scope_of frame) ≡ true → refusals_of (agg m e) (scope_of frame) Aggregation ≡ [] → kind_in e (scope_of frame) ≡ Some j
+    → value_at (agg m e) frame p ≡ Some v → (xs : List Slot) × (value_on e (rows_of_frame frame p) ≡ Some (rows xs)) × (reduced_value m j xs ≡ v)
+reduced_at m e frame p j v w r kind h =
+    let made_cell = mapped (value_on (agg m e) (rows_of_frame frame p)) value_of_cell v h in
+    let k = made_bound (kind_in e (scope_of (rows_of_frame frame p))) _ made_cell.0 made_cell.1 in
+    let c = made_bound (made (outcome_on e (rows_of_frame frame p))) _ made_cell.0 k.2 in
+    let shape = shape_of_value e (rows_of_frame frame p) c.0 c.1 ∙ reduced_list m e (scope_of frame) (rows_of_frame frame p) c.0 w r c.1 in
+    let xs = list_cell c.0 shape in
+    let same_kind : Some j ≡ Some k.0 = sym kind ∙ ap (kind_in e) (sym (scope-rows frame p)) ∙ k.1 in
+    let ej : j ≡ k.0 = cc in
+    let cell : reduction_cell m k.0 c.0 ≡ made_cell.0 = let ok : Ok (reduction_cell m k.0 c.0) ≡ Ok made_cell.0 = made_ok (Ok (reduction_cell m k.0 c.0)) made_cell.0 c.2 in cc (ok) in
+    (xs.0, c.1 ∙ ap Some xs.1, (λ i. value_of_cell (reduction_cell m (ej i) (sym xs.1 i))) ∙ ap value_of_cell cell ∙ made_cell.2)
+
+-- and the other way round
+at_reduced : (m : GroupByMethod) (e : Tree) (frame : Frame) (p : List ℕ) (j : Kind) (xs : List Slot) → kind_in e (scope_of frame) ≡ Some j → value_on e (rows_of_frame frame p) ≡ Some (rows xs) → value_at (agg m e) frame p ≡ Some (reduced_value m j xs)
+at_reduced m e frame p j xs kind h =
+    let k = ap (kind_in e) (scope-rows frame p) ∙ kind in
+    λ i. option_map value_of_cell (made (k i >>= λ t. h i >>= λ c. Some (Ok (reduction_cell m t c))))
+
+-- on each part
+reduced_on : (m : GroupByMethod) (e : Tree) (frame : Frame) (parts : List (List ℕ)) (j : Kind) (values : List Slot) → is_elementwise e (scope_of frame) ≡ true → refusals_of (agg m e) (scope_of frame) Aggregation ≡ [] → kind_in e (scope_of frame) ≡ Some j
+    → each (value_at (agg m e) frame) parts ≡ Some values → (xss : List (List Slot)) × ListsOn e frame parts xss × (map (reduced_value m j) xss ≡ values)
+reduced_on m e frame [] j values w r kind h = ([], tt, cc)
+reduced_on m e frame (p ∷ parts) j values w r kind h =
+    let v = bound (value_at (agg m e) frame p) _ values h in
+    let vs = mapped (each (value_at (agg m e) frame) parts) (λ ys. v.0 ∷ ys) values v.2 in
+    let xs = reduced_at m e frame p j v.0 w r kind v.1 in
+    let xss = reduced_on m e frame parts j vs.0 w r kind vs.1 in
+    (xs.0 ∷ xss.0, (xs.1, xss.1), (λ i. xs.2 i ∷ xss.2 i) ∙ vs.2)
+
+-- the lists on the parts are joined on the rows of all
+lists_join : (e : Tree) (frame : Frame) (p : List ℕ) (ps : List (List ℕ)) (xs : List Slot) (xss : List (List Slot)) → is_elementwise e (scope_of frame) ≡ true → list_any (is_misfit frame) (leaf_names e) ≡ false
+    → value_on e (rows_of_frame frame p) ≡ Some (rows xs) → ListsOn e frame ps xss → value_on e (rows_of_frame frame (rows_of_parts (p ∷ ps))) ≡ Some (rows (all_slots (xs ∷ xss)))
+lists_join e frame p [] xs [] w m h on = ap (λ q. value_on e (rows_of_frame frame q)) (append-nil p) ∙ h ∙ ap (λ ys. Some (rows ys)) (sym (append-nil xs))
+lists_join e frame p [] xs (ys ∷ xss) w m h on = absurd on
+lists_join e frame p (q ∷ ps) xs [] w m h on = absurd on
+lists_join e frame p (q ∷ ps) xs (ys ∷ xss) w m h on =
+    (value_joins e (scope_of frame) frame p (rows_of_parts (q ∷ ps)) (rows xs) (rows (all_slots (ys ∷ xss))) w m h (lists_join e frame q ps ys xss w m on.0 on.1)).0
+
+lists_of_parts : (e : Tree) (frame : Frame) (parts : List (List ℕ)) (xss : List (List Slot)) → is_elementwise e (scope_of frame) ≡ true → list_any (is_misfit frame) (leaf_names e) ≡ false → are_parts parts ≡ true
+    → ListsOn e frame parts xss → value_on e (rows_of_frame frame (rows_of_parts parts)) ≡ Some (rows (all_slots xss))
+lists_of_parts e frame [] xss w m some on = cc
+lists_of_parts e frame (p ∷ ps) [] w m some on = absurd on
+lists_of_parts e frame (p ∷ ps) (xs ∷ xss) w m some on = lists_join e frame p ps xs xss w m on.0 on.1
+
+-- some lists, none of them empty
+abbrev has_slots : List Slot → Bool
+has_slots [] = false
+has_slots (x ∷ xs) = true
+
+abbrev are_lists : List (List Slot) → Bool
+are_lists [] = false
+are_lists (xs ∷ xss) = list_all has_slots (xs ∷ xss)
+
+some_slots : (p : List ℕ) (xs : List Slot) → length xs ≡ length p → has_rows p ≡ true → has_slots xs ≡ true
+some_slots p (x ∷ xs) h some = refl
+some_slots [] [] h some = cc
+some_slots (r ∷ p) [] h some = absurd (omega arith)
+
+all_slots_there : (e : Tree) (frame : Frame) (parts : List (List ℕ)) (xss : List (List Slot)) → is_elementwise e (scope_of frame) ≡ true → list_any (is_misfit frame) (leaf_names e) ≡ false → list_all has_rows parts ≡ true
+    → ListsOn e frame parts xss → list_all has_slots xss ≡ true
+all_slots_there e frame [] [] w m some on = refl
+all_slots_there e frame [] (xs ∷ xss) w m some on = absurd on
+all_slots_there e frame (p ∷ ps) [] w m some on = absurd on
+all_slots_there e frame (p ∷ ps) (xs ∷ xss) w m some on =
+    let s = both_true (has_rows p) (list_all has_rows ps) some in
+    λ i. some_slots p xs (value_long e (scope_of frame) frame p (rows xs) w m on.0) s.0 i && all_slots_there e frame ps xss w m s.1 on.1 i
+
+lists_there : (e : Tree) (frame : Frame) (parts : List (List ℕ)) (xss : List (List Slot)) → is_elementwise e (scope_of frame) ≡ true → list_any (is_misfit frame) (leaf_names e) ≡ false → are_parts parts ≡ true
+    → ListsOn e frame parts xss → are_lists xss ≡ true
+lists_there e frame [] xss w m some on = cc
+lists_there e frame (p ∷ ps) [] w m some on = absurd on
+lists_there e frame (p ∷ ps) (xs ∷ xss) w m some on = all_slots_there e frame (p ∷ ps) (xs ∷ xss) w m some on
