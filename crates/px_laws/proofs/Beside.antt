@@ -1,6 +1,6 @@
 -- The value of an expression whose columns are the frame's.
-use Rattle.std.proofs.Common.{◌≡◌, ℕ, Bool, true, false, ◌&&◌, cond, List, [], ◌∷◌, ◌++◌, Option, Some, None, Result, Ok, Err, option_map, map, fold, refl, sym, ◌∙◌, ap}
-use Rattle.std.specs.List.{find, list_all, zip}
+use Rattle.std.proofs.Common.{◌≡◌, ℕ, Bool, true, false, ◌&&◌, cond, List, [], ◌∷◌, ◌++◌, Option, Some, None, Ok, option_map, map, fold, refl, sym, ◌∙◌, ap}
+use Rattle.std.specs.List.{find}
 use Rattle.std.specs.Option.{option_or}
 use Rattle.std.specs.Prelude.{is_some}
 use Rattle.px_column.specs.Kind.{Kind}
@@ -8,9 +8,8 @@ use Rattle.px_column.specs.Option.{◌>>=◌, each}
 use Rattle.px_column.specs.Operator.{operator_kind}
 use Rattle.px_column.specs.Reduction.{reduced_kind}
 use Rattle.px_column.specs.Series.{Series}
-use Rattle.px_column.specs.declared.error.PxError.{PxError}
 use Rattle.px_frame.specs.Cell.{Cell, rows}
-use Rattle.px_frame.specs.External.{Frame, height, look_in, scope_of, rows_of_frame, with_field, external_at}
+use Rattle.px_frame.specs.External.{look_in, scope_of, rows_of_frame, with_field, external_at}
 use Rattle.px_frame.specs.Frame.{look, has_name, series_at, height_of}
 use Rattle.px_frame.specs.Schema.{FieldKind, column_field, has_field_name, is_field_name}
 use Rattle.px_frame.specs.Spread.{NamedCell}
@@ -19,7 +18,7 @@ use Rattle.px_plan.specs.Nodes.{leaf_names, all_leaf_names, order_leaf_names}
 use Rattle.px_plan.specs.Shape.{is_unit, is_literal_tree, name_of}
 use Rattle.px_plan.specs.Tree.{Tree, Trees, Order, no_trees, one_tree, no_order, ordered, column, literal, alias, binary, ternary, cast, function, filter, slice, gather, sort, sort_by, agg, len, window}
 use Rattle.px_plan.specs.Typing.{kind_in, kinds_in, kind_of_name, made_kind, function_kind, window_kind}
-use Rattle.px_plan.specs.Value.{value_on, outcome_on, made, cells_on, named_on, order_on, named, first_kind, whole_window, window_parts}
+use Rattle.px_plan.specs.Value.{value_on, outcome_on, made, cells_on, named_on, order_on, first_kind, whole_window, window_parts}
 use Rattle.px_laws.specs.Beside.{beside, is_column_of, are_columns_of}
 
 both : (a b : Bool) → (a && b) ≡ true → (a ≡ true) × (b ≡ true)
@@ -170,8 +169,8 @@ mutual
       let s = split cs (leaf_names f) (all_leaf_names keys ++ order_leaf_names order) h in
       let t = split cs (all_leaf_names keys) (order_leaf_names order) s.1 in
       λ i. window_parts (named_same keys cs a b t.0 i) (order_same order cs a b t.1 i) (beside cs a)
-          >>= λ found. whole_window mapping (beside cs a) found (λ parts. each_same (λ p. made (outcome_on f (rows_of_frame (beside cs a) p))) (λ p. made (outcome_on f (rows_of_frame (beside cs b) p))) parts
-          (λ p. ap made (outcome_same f (map (series_at p) cs) (map (external_at (height_of cs) p) a) (map (external_at (height_of cs) p) b) (columns_at cs p (leaf_names f) ∙ s.0))) i)
+      >>= λ found. whole_window mapping (beside cs a) found (λ parts. each_same (λ p. made (outcome_on f (rows_of_frame (beside cs a) p))) (λ p. made (outcome_on f (rows_of_frame (beside cs b) p))) parts
+      (λ p. ap made (outcome_same f (map (series_at p) cs) (map (external_at (height_of cs) p) a) (map (external_at (height_of cs) p) b) (columns_at cs p (leaf_names f) ∙ s.0))) i)
 
   cells_same : (es : Trees) (cs a b : List Series) → are_columns_of cs (all_leaf_names es) ≡ true → cells_on es (beside cs a) ≡ cells_on es (beside cs b)
   cells_same no_trees cs a b h = refl

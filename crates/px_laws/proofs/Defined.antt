@@ -1,27 +1,26 @@
 -- An expression that is not refused has a value exactly where it has no fault.
-use Rattle.std.proofs.Common.{◌≡◌, ℕ, ◌==◌, Bool, true, false, cond, List, [], ◌∷◌, ◌++◌, Option, Some, None, Result, Ok, Err, option_map, length, map, fold, refl, sym, ◌∙◌, ap, subst}
+use Rattle.std.proofs.Common.{◌≡◌, ℕ, ◌==◌, Bool, true, false, cond, List, [], ◌∷◌, ◌++◌, Option, Some, None, Result, Ok, Err, option_map, length, map, fold, refl, sym, ◌∙◌, ap}
 use Rattle.std.specs.List.{find, flat_map, zip}
 use Rattle.std.specs.Option.{option_or}
 use Rattle.px_column.specs.Kind.{Kind}
 use Rattle.px_column.specs.Option.{◌>>=◌, each}
 use Rattle.px_column.specs.Series.{Series}
 use Rattle.px_column.specs.declared.error.PxError.{PxError}
-use Rattle.px_frame.specs.Cell.{Cell, unit, rows}
+use Rattle.px_frame.specs.Cell.{Cell, rows}
 use Rattle.px_frame.specs.External.{Frame, height, look_in, scope_of, rows_of_frame, with_field, external_at}
 use Rattle.px_frame.specs.Frame.{look, has_name, series_at}
 use Rattle.px_frame.specs.Schema.{FieldKind, column_field, has_field_name, is_field_name}
-use Rattle.px_frame.specs.Spread.{NamedCell}
-use Rattle.px_plan.specs.Node.{chosen, literal_cell, binary_cell, ternary_cell, cast_cell, function_cell, filter_cell, slice_cell, gather_cell, sort_cell, sort_by_cell, reduction_cell}
+use Rattle.px_plan.specs.Node.{literal_cell, binary_cell, ternary_cell, cast_cell, function_cell, filter_cell, slice_cell, gather_cell, sort_cell, sort_by_cell, reduction_cell}
 use Rattle.px_plan.specs.Shape.{is_literal_tree, name_of}
 use Rattle.px_plan.specs.Tree.{Tree, Trees, Order, no_trees, one_tree, no_order, ordered, column, literal, alias, binary, ternary, cast, function, filter, slice, gather, sort, sort_by, agg, len, window}
-use Rattle.px_plan.specs.Typing.{Scope, kind_in, kind_of_name, refusals_of, all_refusals_of, order_refusals_of}
+use Rattle.px_plan.specs.Typing.{kind_in, kind_of_name, refusals_of, all_refusals_of, order_refusals_of}
 use Rattle.px_plan.specs.Value.{value_on, outcome_on, made, cells_on, named_on, order_on, named, first_kind, whole_window, window_parts, fault_in, faults_on, all_faults_on, order_faults_on, parts_in, parts_on}
-use Rattle.px_plan.specs.Window.{OrderCell, parts_by, window_cell}
+use Rattle.px_plan.specs.Window.{parts_by, window_cell}
 use Rattle.px_plan.specs.declared.context.Context.{Context}
 use Rattle.px_plan.specs.declared.context.Context.TheVariants.{Default, Aggregation}
 use Rattle.px_plan.specs.declared.window.WindowMapping.{WindowMapping}
 use Rattle.px_laws.proofs.KindThere.{There, none_left, none_right, none_first, kind_there, kinds_there}
-use Rattle.px_laws.proofs.Shapes.{bound, made_bound, made_ok, map_found}
+use Rattle.px_laws.proofs.Shapes.{bound}
 
 -- a name that has a type stands for a column
 missing_stays : (n : List ℕ) (fields : List FieldKind) (s : Series) → find (has_field_name n) fields ≡ None → has_name n s ≡ false → find (has_field_name n) (with_field fields s) ≡ None
@@ -35,6 +34,7 @@ missing_stays n fields s h m = by (is_field_name s.name fields)
             → cond b (Some f) (find (has_field_name n) (fs ++ column_field s ∷ [])) ≡ None
         step true h rest = cc
         step false h rest = rest h
+
     by : (b : Bool) → find (has_field_name n) (cond b fields (fields ++ column_field s ∷ [])) ≡ None
     by true = h
     by false = at_end fields h

@@ -1,10 +1,10 @@
 -- An elementwise expression's value on some rows and then others is its value on the first, and then that on the others.
-use Rattle.std.proofs.Common.{◌≡◌, ℕ, ◌+◌, ◌==◌, zero, suc, Bool, true, false, cond, not, ◌&&◌, ◌||◌, List, [], ◌∷◌, ◌++◌, Option, Some, None, Result, Ok, Err, option_map, length, map, replicate, subst, refl, sym, ◌∙◌, ap, arith}
+use Rattle.std.proofs.Common.{◌≡◌, ℕ, ◌+◌, ◌==◌, suc, Bool, true, false, cond, not, ◌&&◌, ◌||◌, List, [], ◌∷◌, ◌++◌, Option, Some, None, Result, Ok, Err, option_map, length, map, replicate, subst, refl, sym, ◌∙◌, ap, arith}
 use Rattle.std.specs.List.{find, zip, list_any, list_all}
 use Rattle.std.specs.Option.{option_or, option_map_or}
 use Rattle.std.specs.Prelude.{is_some}
 use Rattle.std.specs.Result.{result_map_both}
-use Rattle.std.proofs.lemmas.List.{length-append, map-append, length-map, replicate-append-replicate, length-replicate}
+use Rattle.std.proofs.lemmas.List.{length-append, map-append, replicate-append-replicate, length-replicate}
 use Rattle.std.proofs.lemmas.List.Folds.{list_any-append}
 use Rattle.std.proofs.lemmas.Bool.Decides.{nat_tests}
 use Rattle.px_column.specs.Cast.{cast_slot, cast_slots, items_cast, before}
@@ -31,7 +31,7 @@ use Rattle.px_plan.specs.Value.{value_on, outcome_on, made, cells_on, first_kind
 use Rattle.px_plan.specs.declared.function.FunctionExpr.{FunctionExpr}
 use Rattle.px_plan.specs.declared.function.FunctionExpr.TheVariants.{IsNull, IsNotNull, Not, IsBetween, IsIn, Reverse, Shift, DropNulls, NullCount, Explode}
 use Rattle.px_laws.proofs.Defined.{scope-rows}
-use Rattle.px_laws.proofs.Shapes.{bound, made_bound, made_ok, map_found, result_bound}
+use Rattle.px_laws.proofs.Shapes.{bound, made_bound, made_ok, result_bound}
 
 -- one unit twice, or two lists
 pub data Alike : Cell → Cell → Type 0 where
@@ -137,9 +137,9 @@ zip_lists f {a = a} {u = u} {b = b} {v = v} c d s t shape h g =
     let after : (is_unit_cell u && is_unit_cell v) ≡ false = (λ i. alike_shape s i && alike_shape t i) ∙ shape in
     as_lists _ (map each_pair (zip xs.0 ys.0)) (map each_pair (zip us.0 vs.0)) c d
     ((λ i. spread (rows_of i) (joined a u) >>> λ ps. spread (rows_of i) (joined b v) >>> λ qs. Ok (cell_of (whole i) (map each_pair (zip ps qs))))
-      ∙ (λ i. x.0 i >>> λ ps. y.0 i >>> λ qs. Ok (rows (map each_pair (zip ps qs))))
-      ∙ ap (λ ps. Ok (rows (map each_pair ps))) (zip_append xs.0 us.0 ys.0 vs.0 (x.1 ∙ sym y.1))
-      ∙ ap (λ ps. Ok (rows ps)) (map-append each_pair (zip xs.0 ys.0) (zip us.0 vs.0)))
+    ∙ (λ i. x.0 i >>> λ ps. y.0 i >>> λ qs. Ok (rows (map each_pair (zip ps qs))))
+    ∙ ap (λ ps. Ok (rows (map each_pair ps))) (zip_append xs.0 us.0 ys.0 vs.0 (x.1 ∙ sym y.1))
+    ∙ ap (λ ps. Ok (rows ps)) (map-append each_pair (zip xs.0 ys.0) (zip us.0 vs.0)))
     (ap (λ w. cell_of w (map each_pair (zip xs.0 ys.0))) (sym shape) ∙ ec)
     (ap (λ w. cell_of w (map each_pair (zip us.0 vs.0))) (sym after) ∙ ed)
 
@@ -172,10 +172,10 @@ zip_three_lists f {a = a} {u = u} {b = b} {v = v} {e = e} {w = w} c d s t r shap
     let after : (is_unit_cell u && (is_unit_cell v && is_unit_cell w)) ≡ false = (λ i. alike_shape s i && (alike_shape t i && alike_shape r i)) ∙ shape in
     as_lists _ (map each_pair first) (map each_pair last) c d
     ((λ i. spread (rows_of i) (joined a u) >>> λ ps. spread (rows_of i) (joined b v) >>> λ qs. spread (rows_of i) (joined e w) >>> λ os. Ok (cell_of (whole i) (map each_pair (zip ps (zip qs os)))))
-      ∙ (λ i. x.0 i >>> λ ps. y.0 i >>> λ qs. z.0 i >>> λ os. Ok (rows (map each_pair (zip ps (zip qs os)))))
-      ∙ ap (λ qs. Ok (rows (map each_pair (zip (xs.0 ++ us.0) qs)))) (zip_append ys.0 vs.0 zs.0 ws.0 (y.1 ∙ sym z.1))
-      ∙ ap (λ ps. Ok (rows (map each_pair ps))) (zip_append xs.0 us.0 (zip ys.0 zs.0) (zip vs.0 ws.0) (x.1 ∙ sym y.1 ∙ sym (length_zip ys.0 zs.0 (y.1 ∙ sym z.1))))
-      ∙ ap (λ ps. Ok (rows ps)) (map-append each_pair first last))
+    ∙ (λ i. x.0 i >>> λ ps. y.0 i >>> λ qs. z.0 i >>> λ os. Ok (rows (map each_pair (zip ps (zip qs os)))))
+    ∙ ap (λ qs. Ok (rows (map each_pair (zip (xs.0 ++ us.0) qs)))) (zip_append ys.0 vs.0 zs.0 ws.0 (y.1 ∙ sym z.1))
+    ∙ ap (λ ps. Ok (rows (map each_pair ps))) (zip_append xs.0 us.0 (zip ys.0 zs.0) (zip vs.0 ws.0) (x.1 ∙ sym y.1 ∙ sym (length_zip ys.0 zs.0 (y.1 ∙ sym z.1))))
+    ∙ ap (λ ps. Ok (rows ps)) (map-append each_pair first last))
     (ap (λ k. cell_of k (map each_pair first)) (sym shape) ∙ ec)
     (ap (λ k. cell_of k (map each_pair last)) (sym after) ∙ ed)
 

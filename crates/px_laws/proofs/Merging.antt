@@ -1,11 +1,11 @@
 -- The values of a partition safe expression on parts merge to that on all their rows.
-use Rattle.std.proofs.Common.{◌≡◌, ℕ, ◌+◌, ◌-◌, ◌^◌, ◌<◌, ◌≤◌, zero, suc, pos, Bool, true, false, cond, not, ◌&&◌, List, [], ◌∷◌, ◌++◌, Option, Some, None, Result, Ok, Err, option_map, length, map, subst, refl, sym, ◌∙◌, ap, arith}
+use Rattle.std.proofs.Common.{◌≡◌, ℕ, ◌+◌, ◌-◌, ◌^◌, ◌<◌, ◌≤◌, suc, Bool, true, false, ◌&&◌, List, [], ◌∷◌, ◌++◌, Option, Some, None, Ok, option_map, length, map, refl, sym, ◌∙◌, ap, arith}
 use Rattle.std.specs.List.{flat_map, list_all, list_any}
 use Rattle.std.proofs.lemmas.List.{append-nil, length-append, length-map}
-use Rattle.px_column.specs.Datum.{integer, list, Slot, slots, items, items-slots}
+use Rattle.px_column.specs.Datum.{list, Slot, slots, items, items-slots}
 use Rattle.px_column.specs.Kind.{Kind, booleans, int8s, int16s, int32s, int64s, uint8s, uint16s, uint32s, uint64s, strings, binaries, nulls, lists}
 use Rattle.px_column.specs.Option.{◌>>=◌, each}
-use Rattle.px_column.specs.Reduction.{reduced_kind, reduced_slot, count_slot, kind_there}
+use Rattle.px_column.specs.Reduction.{reduced_kind, count_slot, sum_slot}
 use Rattle.px_column.specs.Series.{Series, slot_at}
 use Rattle.px_column.specs.Sum.{sum_kind, is_sum_kind, summed}
 use Rattle.px_column.specs.declared.error.PxError.{PxError}
@@ -18,9 +18,9 @@ use Rattle.px_frame.specs.External.{Frame, height, scope_of, rows_of_frame}
 use Rattle.px_frame.specs.Frame.{height_of, series_at}
 use Rattle.px_plan.specs.Node.{is_unit_cell, function_cell, reduction_cell}
 use Rattle.px_plan.specs.Nodes.{leaf_names}
-use Rattle.px_plan.specs.Partition.{is_elementwise, are_elementwise, is_row_function, is_merged_method, is_partition_safe, rows_of_list, inner_rows, merged_by, merged}
-use Rattle.px_plan.specs.Shape.{is_unit, is_unit_first, are_units, is_implode, is_literal_tree, are_literal_trees, has_implode}
-use Rattle.px_plan.specs.Tree.{Tree, Trees, Literal, single, range, series, no_trees, one_tree, column, literal, alias, binary, ternary, cast, function, filter, slice, gather, sort, sort_by, agg, len, window}
+use Rattle.px_plan.specs.Partition.{is_elementwise, are_elementwise, is_row_function, is_merged_method, inner_rows, merged_by}
+use Rattle.px_plan.specs.Shape.{is_unit, is_unit_first, are_units, is_literal_tree, are_literal_trees, has_implode}
+use Rattle.px_plan.specs.Tree.{Tree, Trees, no_trees, one_tree, column, literal, alias, binary, ternary, cast, function, filter, slice, gather, sort, sort_by, agg, len, window}
 use Rattle.px_plan.specs.Typing.{Scope, kind_in, kinds_in, made_kind, refusals_of, refused_where, grouped_reduction_refusals, implode_refusal}
 use Rattle.px_plan.specs.Value.{value_on, outcome_on, made, cells_on, first_kind, is_misfit}
 use Rattle.px_plan.specs.declared.context.Context.TheVariants.{Aggregation}
@@ -157,6 +157,9 @@ list_cell : (c : Cell) → is_unit_cell c ≡ false → (xs : List Slot) × (c �
 list_cell (unit s) h = cc
 list_cell (rows xs) h = (xs, refl)
 
+value_is : (m : GroupByMethod) (j k : Kind) (c : Cell) (xs : List Slot) (d : Cell) (v : Slot) → j ≡ k → c ≡ rows xs → reduction_cell m k c ≡ d → value_of_cell d ≡ v → reduced_value m j xs ≡ v
+value_is m j k c xs d v ej ec ed ev = (λ i. value_of_cell (reduction_cell m (ej i) (sym ec i))) ∙ ap value_of_cell ed ∙ ev
+
 -- on some rows, a reduction's value is that of its input's list
 reduced_at : (m : GroupByMethod) (e : Tree) (frame : Frame) (p : List ℕ) (j : Kind) (v : Slot) → is_elementwise e (scope_of frame) ≡ true → refusals_of (agg m e) (scope_of frame) Aggregation ≡ [] → kind_in e (scope_of frame) ≡ Some j
     → value_at (agg m e) frame p ≡ Some v → (xs : List Slot) × (value_on e (rows_of_frame frame p) ≡ Some (rows xs)) × (reduced_value m j xs ≡ v)
@@ -169,7 +172,7 @@ reduced_at m e frame p j v w r kind h =
     let same_kind : Some j ≡ Some k.0 = sym kind ∙ ap (kind_in e) (sym (scope-rows frame p)) ∙ k.1 in
     let ej : j ≡ k.0 = cc in
     let cell : reduction_cell m k.0 c.0 ≡ made_cell.0 = let ok : Ok (reduction_cell m k.0 c.0) ≡ Ok made_cell.0 = made_ok (Ok (reduction_cell m k.0 c.0)) made_cell.0 c.2 in cc (ok) in
-    (xs.0, c.1 ∙ ap Some xs.1, (λ i. value_of_cell (reduction_cell m (ej i) (sym xs.1 i))) ∙ ap value_of_cell cell ∙ made_cell.2)
+    (xs.0, c.1 ∙ ap Some xs.1, value_is m j k.0 c.0 xs.0 made_cell.0 v ej xs.1 cell made_cell.2)
 
 -- and the other way round
 at_reduced : (m : GroupByMethod) (e : Tree) (frame : Frame) (p : List ℕ) (j : Kind) (xs : List Slot) → kind_in e (scope_of frame) ≡ Some j → value_on e (rows_of_frame frame p) ≡ Some (rows xs) → value_at (agg m e) frame p ≡ Some (reduced_value m j xs)
@@ -231,3 +234,164 @@ lists_there : (e : Tree) (frame : Frame) (parts : List (List ℕ)) (xss : List (
 lists_there e frame [] xss w m some on = cc
 lists_there e frame (p ∷ ps) [] w m some on = absurd on
 lists_there e frame (p ∷ ps) (xs ∷ xss) w m some on = all_slots_there e frame (p ∷ ps) (xs ∷ xss) w m some on
+
+-- the last place of the whole is that of the last list
+last_rest : (x y : Slot) (ys : List Slot) → slot_at (x ∷ y ∷ ys) (length (x ∷ y ∷ ys) - 1) ≡ slot_at (y ∷ ys) (length (y ∷ ys) - 1)
+last_rest x y ys =
+    let n = length ys in
+    let one : suc (suc n) - 1 ≡ suc n = omega arith in
+    let none : suc n - 1 ≡ n = omega arith in
+    ap (slot_at (x ∷ y ∷ ys)) one ∙ ap (slot_at (y ∷ ys)) (sym none)
+
+last_joined : (xs : List Slot) (y : Slot) (ys : List Slot) → slot_at (xs ++ y ∷ ys) (length (xs ++ y ∷ ys) - 1) ≡ slot_at (y ∷ ys) (length (y ∷ ys) - 1)
+last_joined [] y ys = refl
+last_joined (x ∷ []) y ys = last_rest x y ys
+last_joined (x ∷ z ∷ xs) y ys = last_rest x z (xs ++ y ∷ ys) ∙ last_joined (z ∷ xs) y ys
+
+some_left : (xs ys : List Slot) → has_slots xs ≡ true → has_slots (xs ++ ys) ≡ true
+some_left [] ys h = cc
+some_left (x ∷ xs) ys h = refl
+
+last_of_joined : (xs ys : List Slot) → has_slots ys ≡ true → slot_at (xs ++ ys) (length (xs ++ ys) - 1) ≡ slot_at ys (length ys - 1)
+last_of_joined xs [] h = cc
+last_of_joined xs (y ∷ ys) h = last_joined xs y ys
+
+last_of_lists : (xs : List Slot) (xss : List (List Slot)) → list_all has_slots (xs ∷ xss) ≡ true
+    → slot_at (all_slots (xs ∷ xss)) (length (all_slots (xs ∷ xss)) - 1) ≡ slot_at (map (λ ys. slot_at ys (length ys - 1)) (xs ∷ xss)) (length (map (λ ys. slot_at ys (length ys - 1)) (xs ∷ xss)) - 1)
+last_of_lists xs [] h = ap (λ ys. slot_at ys (length ys - 1)) (append-nil xs)
+last_of_lists xs (ys ∷ xss) h =
+    let there = both_true (has_slots xs) (list_all has_slots (ys ∷ xss)) h in
+    let rest = both_true (has_slots ys) (list_all has_slots xss) there.1 in
+    last_of_joined xs (all_slots (ys ∷ xss)) (some_left ys (all_slots xss) rest.0)
+    ∙ last_of_lists ys xss there.1
+    ∙ sym (last_rest (slot_at xs (length xs - 1)) (slot_at ys (length ys - 1)) (map (λ zs. slot_at zs (length zs - 1)) xss))
+
+-- the first place of the whole is that of the first list
+first_of_lists : (xss : List (List Slot)) → are_lists xss ≡ true → slot_at (all_slots xss) 0 ≡ slot_at (map (λ xs. slot_at xs 0) xss) 0
+first_of_lists [] h = cc
+first_of_lists ([] ∷ xss) h = cc
+first_of_lists ((x ∷ xs) ∷ xss) h = refl
+
+last_is : (xss : List (List Slot)) → are_lists xss ≡ true
+    → slot_at (all_slots xss) (length (all_slots xss) - 1) ≡ slot_at (map (λ ys. slot_at ys (length ys - 1)) xss) (length (map (λ ys. slot_at ys (length ys - 1)) xss) - 1)
+last_is [] h = cc
+last_is (xs ∷ xss) h = last_of_lists xs xss h
+
+-- lists of one list hold their places
+inner_of_lists : (k : Kind) (xss : List (List Slot)) → flat_map inner_rows (map (reduced_value Implode k) xss) ≡ all_slots xss
+inner_of_lists k [] = refl
+inner_of_lists k (xs ∷ xss) = (λ i. (append-nil (items (slots xs)) ∙ items-slots xs) i ++ inner_of_lists k xss i)
+
+-- what a sum's type is
+sum_of_kind : (j k : Kind) → made_kind (reduced_kind Sum j) ≡ Some k → (sum_kind j ≡ Some k) × (is_sum_kind k ≡ true)
+sum_of_kind booleans k h = let e : uint32s ≡ k = cc in (h, ap is_sum_kind (sym e))
+sum_of_kind int8s k h = let e : int64s ≡ k = cc in (h, ap is_sum_kind (sym e))
+sum_of_kind int16s k h = let e : int64s ≡ k = cc in (h, ap is_sum_kind (sym e))
+sum_of_kind int32s k h = let e : int32s ≡ k = cc in (h, ap is_sum_kind (sym e))
+sum_of_kind int64s k h = let e : int64s ≡ k = cc in (h, ap is_sum_kind (sym e))
+sum_of_kind uint8s k h = let e : int64s ≡ k = cc in (h, ap is_sum_kind (sym e))
+sum_of_kind uint16s k h = let e : int64s ≡ k = cc in (h, ap is_sum_kind (sym e))
+sum_of_kind uint32s k h = let e : uint32s ≡ k = cc in (h, ap is_sum_kind (sym e))
+sum_of_kind uint64s k h = let e : uint64s ≡ k = cc in (h, ap is_sum_kind (sym e))
+sum_of_kind strings k h = cc
+sum_of_kind binaries k h = cc
+sum_of_kind nulls k h = cc
+sum_of_kind (lists j) k h = cc
+
+-- the least and the greatest
+abbrev is_extreme_method : GroupByMethod → Bool
+is_extreme_method Min = true
+is_extreme_method Max = true
+is_extreme_method _ = false
+
+method_merges : (m : GroupByMethod) (j k : Kind) (xss : List (List Slot)) → is_merged_method m ≡ true → is_extreme_method m ≡ false → made_kind (reduced_kind m j) ≡ Some k → are_lists xss ≡ true → length (all_slots xss) < 2 ^ 32
+    → reduced_value m j (all_slots xss) ≡ merged_by m k (map (reduced_value m j) xss)
+method_merges Min j k xss w x kind some short = cc
+method_merges Max j k xss w x kind some short = cc
+method_merges Sum j k xss w x kind some short =
+    let s = sum_of_kind j k kind in
+    (λ i. sum_slot (s.0 i) (all_slots xss)) ∙ sum_merges k xss s.1 ∙ (λ i. summed k (map (λ xs. sum_slot (sym s.0 i) xs) xss))
+method_merges First j k xss w x kind some short = first_of_lists xss some
+method_merges Last j k xss w x kind some short = last_is xss some
+method_merges NUnique j k xss w x kind some short = cc
+method_merges (Count true) j k xss w x kind some short =
+    let e : uint32s ≡ k = cc in
+    count_merges {A = Slot} length xss refl length-append short ∙ ap (λ t. summed t (map (λ (xs : List Slot). count_slot (length xs)) xss)) e
+method_merges (Count false) j k xss w x kind some short = cc
+method_merges Implode j k xss w x kind some short = ap (λ ys. Some (list (slots (Some (list (slots ys)) ∷ [])))) (sym (inner_of_lists j xss))
+
+-- the rows of a frame of some rows: none, or as many as these
+height_joins : (frame : Frame) (p q : List ℕ) → height (rows_of_frame frame (p ++ q)) ≡ height (rows_of_frame frame p) + height (rows_of_frame frame q)
+height_joins frame p q = by frame.columns
+  where
+    by : (columns : List Series) → height_of (map (series_at (p ++ q)) columns) ≡ height_of (map (series_at p) columns) + height_of (map (series_at q) columns)
+    by [] = omega arith
+    by (s ∷ columns) = length-map (p ++ q) (slot_at s.slots) ∙ length-append p q ∙ (λ i. sym (length-map p (slot_at s.slots)) i + sym (length-map q (slot_at s.slots)) i)
+
+height_none : (frame : Frame) → height (rows_of_frame frame []) ≡ 0
+height_none frame = by frame.columns
+  where
+    by : (columns : List Series) → height_of (map (series_at []) columns) ≡ 0
+    by [] = refl
+    by (s ∷ columns) = refl
+
+height_within : (frame : Frame) (p : List ℕ) → height (rows_of_frame frame p) ≤ length p
+height_within frame p = by frame.columns
+  where
+    by : (columns : List Series) → height_of (map (series_at p) columns) ≤ length p
+    by [] = omega arith
+    by (s ∷ columns) = omega (arith, length-map p (slot_at s.slots))
+
+each_there : {A B : Type 0} (f : A → B) (xs : List A) → each (λ x. Some (f x)) xs ≡ Some (map f xs)
+each_there f [] = refl
+each_there f (x ∷ xs) = ap (option_map (λ ys. f x ∷ ys)) (each_there f xs)
+
+len_merges : (frame : Frame) (k : Kind) (parts : List (List ℕ)) → OnParts len frame k parts → PartsMerge len frame k parts
+len_merges frame k parts on values h =
+    let count : List ℕ → ℕ = λ p. height (rows_of_frame frame p) in
+    let ek : uint32s ≡ k = let e : Some uint32s ≡ Some k = on.kind in cc in
+    let ev : map (λ p. count_slot (count p)) parts ≡ values = let e : Some (map (λ p. count_slot (count p)) parts) ≡ Some values = sym (each_there (λ p. count_slot (count p)) parts) ∙ h in cc in
+    let few : count (rows_of_parts parts) < 2 ^ 32 = omega (arith, height_within frame (rows_of_parts parts), on.short) in
+    ap Some (count_merges count parts (height_none frame) (height_joins frame) few ∙ (λ i. summed (ek i) (ev i)))
+
+agg_merges : (m : GroupByMethod) (e : Tree) (frame : Frame) (k : Kind) (parts : List (List ℕ)) → is_extreme_method m ≡ false → OnParts (agg m e) frame k parts → PartsMerge (agg m e) frame k parts
+agg_merges m e frame k parts x on values h =
+    let safe = both_true (is_merged_method m) (is_elementwise e (scope_of frame)) on.safe in
+    let j = bound (kind_in e (scope_of frame)) _ k on.kind in
+    let lists = reduced_on m e frame parts j.0 values safe.1 on.accepted j.1 h in
+    let whole = lists_of_parts e frame parts lists.0 safe.1 on.even on.some lists.1 in
+    let there = lists_there e frame parts lists.0 safe.1 on.even on.some lists.1 in
+    let long : length (all_slots lists.0) ≡ length (rows_of_parts parts) = value_long e (scope_of frame) frame (rows_of_parts parts) (rows (all_slots lists.0)) safe.1 on.even whole in
+    let short : length (all_slots lists.0) < 2 ^ 32 = omega (arith, long, on.short) in
+    at_reduced m e frame (rows_of_parts parts) j.0 (all_slots lists.0) j.1 whole
+    ∙ ap Some (method_merges m j.0 k lists.0 safe.0 x j.2 there short ∙ ap (merged_by m k) lists.2)
+
+under_alias : (e : Tree) (n : List ℕ) (frame : Frame) (p : List ℕ) → value_at (alias e n) frame p ≡ value_at e frame p
+under_alias e n frame p = ap (option_map value_of_cell) (under_name (value_on e (rows_of_frame frame p)))
+
+-- for each such expression but the least and the greatest value
+pub parts_merge : (e : Tree) (frame : Frame) (k : Kind) (parts : List (List ℕ)) → is_extreme e ≡ false → OnParts e frame k parts → PartsMerge e frame k parts
+parts_merge (alias e n) frame k parts x on values h =
+    under_alias e n frame (rows_of_parts parts)
+    ∙ parts_merge e frame k parts x (record { safe = on.safe; accepted = on.accepted; even = on.even; kind = on.kind; some = on.some; short = on.short }) values (sym (each_same (value_at (alias e n) frame) (value_at e frame) parts (under_alias e n frame)) ∙ h)
+parts_merge (agg Min e) frame k parts x on values h = cc
+parts_merge (agg Max e) frame k parts x on values h = cc
+parts_merge (agg Sum e) frame k parts x on values h = agg_merges Sum e frame k parts refl on values h
+parts_merge (agg First e) frame k parts x on values h = agg_merges First e frame k parts refl on values h
+parts_merge (agg Last e) frame k parts x on values h = agg_merges Last e frame k parts refl on values h
+parts_merge (agg NUnique e) frame k parts x on values h = agg_merges NUnique e frame k parts refl on values h
+parts_merge (agg (Count b) e) frame k parts x on values h = agg_merges (Count b) e frame k parts refl on values h
+parts_merge (agg Implode e) frame k parts x on values h = agg_merges Implode e frame k parts refl on values h
+parts_merge len frame k parts x on values h = len_merges frame k parts on values h
+parts_merge (column n) frame k parts x on values h = let no : false ≡ true = on.safe in cc
+parts_merge (literal v) frame k parts x on values h = let no : false ≡ true = on.safe in cc
+parts_merge (binary l op r) frame k parts x on values h = let no : false ≡ true = on.safe in cc
+parts_merge (ternary p a b) frame k parts x on values h = let no : false ≡ true = on.safe in cc
+parts_merge (cast e to o) frame k parts x on values h = let no : false ≡ true = on.safe in cc
+parts_merge (function es f) frame k parts x on values h = let no : false ≡ true = on.safe in cc
+parts_merge (filter e by) frame k parts x on values h = let no : false ≡ true = on.safe in cc
+parts_merge (slice e offset size) frame k parts x on values h = let no : false ≡ true = on.safe in cc
+parts_merge (gather e idx one) frame k parts x on values h = let no : false ≡ true = on.safe in cc
+parts_merge (sort e o) frame k parts x on values h = let no : false ≡ true = on.safe in cc
+parts_merge (sort_by e by o) frame k parts x on values h = let no : false ≡ true = on.safe in cc
+parts_merge (window f keys order mapping) frame k parts x on values h = let no : false ≡ true = on.safe in cc

@@ -1,7 +1,6 @@
 -- The shape of a value is that of its expression.
 use Rattle.std.proofs.Common.{◌≡◌, ℕ, Bool, true, false, not, ◌&&◌, List, [], ◌∷◌, Option, Some, None, Result, Ok, Err, option_map, length, map, subst, refl, sym, ◌∙◌, ap, if◌then◌else◌}
 use Rattle.std.specs.List.{zip, list_all}
-use Rattle.std.specs.Result.{result_ok}
 use Rattle.px_column.specs.Cast.{cast_slot, cast_slots}
 use Rattle.px_column.specs.Datum.{integer, Slot}
 use Rattle.px_column.specs.Function.{is_null_slot, is_not_null_slot, not_slot, between_slot, in_slot}
@@ -19,12 +18,12 @@ use Rattle.px_column.specs.declared.method.GroupByMethod.{GroupByMethod}
 use Rattle.px_column.specs.declared.method.GroupByMethod.TheVariants.{Min, Max, Sum, First, Last, NUnique, Count, Implode}
 use Rattle.px_column.specs.declared.sort_options.SortMultipleOptions.{SortMultipleOptions}
 use Rattle.px_frame.specs.Cell.{Cell, unit, rows, list_of}
-use Rattle.px_frame.specs.External.{Frame, height, look_in, scope_of, rows_of_frame}
+use Rattle.px_frame.specs.External.{Frame, height, look_in, scope_of}
 use Rattle.px_frame.specs.Spread.{spread, rows_beside}
-use Rattle.px_plan.specs.Node.{chosen, is_unit_cell, cell_of, map_cell, zip_cells, zip_three_cells, literal_cell, integers, binary_cell, ternary_cell, cast_cell, function_cell, filter_cell, slice_cell, one_value, offset_of, length_of, gather_cell, is_null_unit, is_index, indexed, sort_cell, sort_by_cell, spread_keys, reduction_cell}
+use Rattle.px_plan.specs.Node.{chosen, is_unit_cell, cell_of, map_cell, zip_cells, zip_three_cells, literal_cell, integers, cast_cell, function_cell, filter_cell, slice_cell, one_value, offset_of, length_of, gather_cell, is_null_unit, is_index, indexed, sort_by_cell, spread_keys, reduction_cell}
 use Rattle.px_plan.specs.Window.{window_cell, placed}
 use Rattle.px_plan.specs.Shape.{is_unit, is_unit_first, are_units, is_single, is_implode, is_literal_tree}
-use Rattle.px_plan.specs.Tree.{Tree, Trees, Order, Literal, single, range, series, no_trees, one_tree, no_order, ordered, column, literal, alias, binary, ternary, cast, function, filter, slice, gather, sort, sort_by, agg, len, window}
+use Rattle.px_plan.specs.Tree.{Tree, Trees, Literal, single, range, series, no_trees, one_tree, column, literal, alias, binary, ternary, cast, function, filter, slice, gather, sort, sort_by, agg, len, window}
 use Rattle.px_plan.specs.declared.function.FunctionExpr.{FunctionExpr}
 use Rattle.px_plan.specs.declared.function.FunctionExpr.TheVariants.{IsNull, IsNotNull, Not, IsBetween, IsIn, Reverse, Shift, DropNulls, NullCount, Explode}
 use Rattle.px_plan.specs.declared.window.WindowMapping.{WindowMapping}

@@ -1,10 +1,9 @@
 -- A sum of sums, each modulo the type's width, is the whole sum modulo it.
-use Rattle.std.proofs.Common.{◌≡◌, ℕ, ◌+◌, ◌-◌, ◌*◌, ◌%◌, ◌^◌, ◌<◌, ◌≤◌, zero, suc, ℤ, pos, negsuc, ◌+ℤ◌, Bool, true, false, List, [], ◌∷◌, ◌++◌, Option, Some, None, length, map, fold, refl, sym, ◌∙◌, ap, subst, arith}
+use Rattle.std.proofs.Common.{◌≡◌, ℕ, ◌+◌, ◌^◌, ◌<◌, ℤ, pos, ◌+ℤ◌, true, List, [], ◌∷◌, ◌++◌, Some, map, fold, refl, sym, ◌∙◌, ap, arith}
 use Rattle.std.specs.List.{flat_map}
-use Rattle.std.specs.Int.{w8, w16, w32, w64, int_wrap, int_rem_euclid, cast_signed, cast_unsigned}
-use Rattle.std.specs.Prelude.{unsigned_abs}
+use Rattle.std.specs.Int.{w32, w64, int_wrap, cast_signed, cast_unsigned}
 use Rattle.std.proofs.Math.Nat.{mod-eq_of_lt}
-use Rattle.std.proofs.lemmas.Int.{ints, int_wrap_fits, int_wrap-add_left, int_wrap-add_right, int_wrap-add_same, SFits-int_wrap, of_z-to_z}
+use Rattle.std.proofs.lemmas.Int.{ints, int_wrap_fits, int_wrap-add_right, int_wrap-add_same, SFits-int_wrap, of_z-to_z}
 use Rattle.std.proofs.lemmas.List.{map-append}
 use Rattle.std.proofs.lemmas.Grind.{fold-append}
 use Rattle.px_column.specs.Datum.{integer, Slot}
@@ -123,11 +122,11 @@ sums_from k w a b [] h = h
 sums_from k w a b (xs ∷ xss) h =
     let t = total xs in
     let step : w.rest (a +ℤ wrapped k t) ≡ w.rest (b +ℤ t) =
-        sym (w.right a (wrapped k t)) ∙ ap (λ z. w.rest (a +ℤ z)) (w.once t) ∙ w.right a t ∙ w.left a b t h in
+    sym (w.right a (wrapped k t)) ∙ ap (λ z. w.rest (a +ℤ z)) (w.once t) ∙ w.right a t ∙ w.left a b t h in
     sums_from k w (a +ℤ wrapped k t) (b +ℤ t) xss step
     ∙ ap w.rest (ap (λ c. fold ◌+ℤ◌ c (map number_of (flat_map (λ (ys : List Slot). ys) xss))) (sym (total_from b xs))
-      ∙ sym (fold-append ◌+ℤ◌ b (map number_of xs) (map number_of (flat_map (λ (ys : List Slot). ys) xss)))
-      ∙ ap (fold ◌+ℤ◌ b) (sym (map-append number_of xs (flat_map (λ (ys : List Slot). ys) xss))))
+    ∙ sym (fold-append ◌+ℤ◌ b (map number_of xs) (map number_of (flat_map (λ (ys : List Slot). ys) xss)))
+    ∙ ap (fold ◌+ℤ◌ b) (sym (map-append number_of xs (flat_map (λ (ys : List Slot). ys) xss))))
 
 -- the sum of the sums of some lists is that of all their places
 pub sum_merges : (k : Kind) (xss : List (List Slot)) → is_sum_kind k ≡ true → summed k (flat_map (λ (xs : List Slot). xs) xss) ≡ summed k (map (summed k) xss)

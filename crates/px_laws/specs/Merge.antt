@@ -4,7 +4,6 @@ use Rattle.std.specs.List.{flat_map, list_all}
 use Rattle.px_column.specs.Datum.{Slot}
 use Rattle.px_column.specs.Kind.{Kind}
 use Rattle.px_column.specs.Option.{each}
-use Rattle.px_column.specs.declared.method.GroupByMethod.{GroupByMethod}
 use Rattle.px_column.specs.declared.method.GroupByMethod.TheVariants.{Min, Max}
 use Rattle.px_frame.specs.Cell.{value_of_cell}
 use Rattle.px_frame.specs.External.{Frame, scope_of, rows_of_frame}
