@@ -6,3 +6,4 @@ pub mod Joining
 pub mod Sums
 pub mod RowCount
 pub mod Merging
+pub mod Extremes
