@@ -7,3 +7,4 @@ pub mod Sums
 pub mod RowCount
 pub mod Merging
 pub mod Extremes
+pub mod Sorted
