@@ -8,3 +8,4 @@ pub mod RowCount
 pub mod Merging
 pub mod Extremes
 pub mod Sorted
+pub mod Typed

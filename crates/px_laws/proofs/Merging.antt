@@ -5,7 +5,7 @@ use Rattle.std.proofs.lemmas.List.{append-nil, length-append, length-map}
 use Rattle.px_column.specs.Datum.{list, Slot, slots, items, items-slots}
 use Rattle.px_column.specs.Kind.{Kind, booleans, int8s, int16s, int32s, int64s, uint8s, uint16s, uint32s, uint64s, strings, binaries, nulls, lists}
 use Rattle.px_column.specs.Option.{◌>>=◌, each}
-use Rattle.px_column.specs.Reduction.{reduced_kind, count_slot, sum_slot}
+use Rattle.px_column.specs.Reduction.{unless_list, reduced_kind, count_slot, sum_slot}
 use Rattle.px_column.specs.Series.{Series, slot_at}
 use Rattle.px_column.specs.Sum.{sum_kind, is_sum_kind, summed}
 use Rattle.px_column.specs.declared.error.PxError.{PxError}
@@ -28,10 +28,15 @@ use Rattle.px_plan.specs.declared.function.FunctionExpr.{FunctionExpr}
 use Rattle.px_plan.specs.declared.function.FunctionExpr.TheVariants.{IsNull, IsNotNull, Not, IsBetween, IsIn, Reverse, Shift, DropNulls, NullCount, Explode}
 use Rattle.px_laws.proofs.Defined.{scope-rows}
 use Rattle.px_laws.proofs.Joining.{both_true, under_name, value_joins}
-use Rattle.px_laws.proofs.KindThere.{none_left, none_right, none_own}
+use Rattle.px_laws.proofs.KindThere.{none_left, none_right, none_first, none_own}
 use Rattle.px_laws.proofs.RowCount.{value_long}
 use Rattle.px_laws.proofs.Shapes.{bound, made_bound, made_ok, shape_of_value}
 use Rattle.px_laws.proofs.Sums.{sum_merges, count_merges}
+use Rattle.px_laws.proofs.Extremes.{kind_sort, is_slot_of, least_merges, greatest_merges}
+use Rattle.px_laws.proofs.Sorted.{are_slots_of}
+use Rattle.px_laws.proofs.Typed.{value_sorted}
+use Rattle.px_laws.specs.Fitting.{has_fitting_columns, has_fitting_literals}
+use Rattle.std.proofs.lemmas.List.Folds.{list_all-append}
 use Rattle.px_laws.specs.Merge.{has_rows, are_parts, rows_of_parts, value_at, OnParts, is_extreme, PartsMerge}
 
 mapped : {A B : Type 0} (o : Option A) (f : A → B) (b : B) → option_map f o ≡ Some b → (a : A) × (o ≡ Some a) × (f a ≡ b)
@@ -395,3 +400,73 @@ parts_merge (gather e idx one) frame k parts x on values h = let no : false ≡ 
 parts_merge (sort e o) frame k parts x on values h = let no : false ≡ true = on.safe in cc
 parts_merge (sort_by e by o) frame k parts x on values h = let no : false ≡ true = on.safe in cc
 parts_merge (window f keys order mapping) frame k parts x on values h = let no : false ≡ true = on.safe in cc
+
+-- the type of a least or a greatest value is that of no list
+unless_lists : (j k : Kind) → made_kind (unless_list j j) ≡ Some k → kind_sort j ≡ 4 → ⊥
+unless_lists booleans k h e = absurd (omega arith)
+unless_lists int8s k h e = absurd (omega arith)
+unless_lists int16s k h e = absurd (omega arith)
+unless_lists int32s k h e = absurd (omega arith)
+unless_lists int64s k h e = absurd (omega arith)
+unless_lists uint8s k h e = absurd (omega arith)
+unless_lists uint16s k h e = absurd (omega arith)
+unless_lists uint32s k h e = absurd (omega arith)
+unless_lists uint64s k h e = absurd (omega arith)
+unless_lists strings k h e = absurd (omega arith)
+unless_lists binaries k h e = absurd (omega arith)
+unless_lists nulls k h e = absurd (omega arith)
+unless_lists (lists j) k h e = cc
+
+all_are : (n : ℕ) (xss : List (List Slot)) → are_slots_of n (all_slots xss) ≡ true → list_all (are_slots_of n) xss ≡ true
+all_are n [] h = refl
+all_are n (xs ∷ xss) h =
+    let s = both_true (are_slots_of n xs) (are_slots_of n (all_slots xss)) (sym (list_all-append (is_slot_of n) xs (all_slots xss)) ∙ h) in
+    λ i. s.0 i && all_are n xss s.1 i
+
+extreme_merges : (m : GroupByMethod) (j k : Kind) (xss : List (List Slot)) → is_extreme_method m ≡ true → made_kind (reduced_kind m j) ≡ Some k → are_slots_of (kind_sort j) (all_slots xss) ≡ true
+    → reduced_value m j (all_slots xss) ≡ merged_by m k (map (reduced_value m j) xss)
+extreme_merges Min j k xss x kind sorted = least_merges (kind_sort j) xss (unless_lists j k kind) (all_are (kind_sort j) xss sorted)
+extreme_merges Max j k xss x kind sorted = greatest_merges (kind_sort j) xss (unless_lists j k kind) (all_are (kind_sort j) xss sorted)
+extreme_merges Sum j k xss x kind sorted = cc
+extreme_merges First j k xss x kind sorted = cc
+extreme_merges Last j k xss x kind sorted = cc
+extreme_merges NUnique j k xss x kind sorted = cc
+extreme_merges (Count b) j k xss x kind sorted = cc
+extreme_merges Implode j k xss x kind sorted = cc
+
+extreme_agg : (m : GroupByMethod) (e : Tree) (frame : Frame) (k : Kind) (parts : List (List ℕ)) → is_extreme_method m ≡ true → has_fitting_columns frame ≡ true → has_fitting_literals e ≡ true → OnParts (agg m e) frame k parts → PartsMerge (agg m e) frame k parts
+extreme_agg m e frame k parts x fit lits on values h =
+    let safe = both_true (is_merged_method m) (is_elementwise e (scope_of frame)) on.safe in
+    let j = bound (kind_in e (scope_of frame)) _ k on.kind in
+    let lists = reduced_on m e frame parts j.0 values safe.1 on.accepted j.1 h in
+    let whole = lists_of_parts e frame parts lists.0 safe.1 on.even on.some lists.1 in
+    let sorted = value_sorted e frame (rows_of_parts parts) j.0 (rows (all_slots lists.0)) safe.1 on.even fit lits (none_first _ _ on.accepted) j.1 whole in
+    at_reduced m e frame (rows_of_parts parts) j.0 (all_slots lists.0) j.1 whole
+    ∙ ap Some (extreme_merges m j.0 k lists.0 x j.2 sorted ∙ ap (merged_by m k) lists.2)
+
+-- for each such expression, where columns and literals fit their types
+pub typed_parts_merge : (e : Tree) (frame : Frame) (k : Kind) (parts : List (List ℕ)) → has_fitting_columns frame ≡ true → has_fitting_literals e ≡ true → OnParts e frame k parts → PartsMerge e frame k parts
+typed_parts_merge (alias e n) frame k parts fit lits on values h =
+    under_alias e n frame (rows_of_parts parts)
+    ∙ typed_parts_merge e frame k parts fit lits (record { safe = on.safe; accepted = on.accepted; even = on.even; kind = on.kind; some = on.some; short = on.short }) values (sym (each_same (value_at (alias e n) frame) (value_at e frame) parts (under_alias e n frame)) ∙ h)
+typed_parts_merge (agg Min e) frame k parts fit lits on values h = extreme_agg Min e frame k parts refl fit lits on values h
+typed_parts_merge (agg Max e) frame k parts fit lits on values h = extreme_agg Max e frame k parts refl fit lits on values h
+typed_parts_merge (agg Sum e) frame k parts fit lits on values h = agg_merges Sum e frame k parts refl on values h
+typed_parts_merge (agg First e) frame k parts fit lits on values h = agg_merges First e frame k parts refl on values h
+typed_parts_merge (agg Last e) frame k parts fit lits on values h = agg_merges Last e frame k parts refl on values h
+typed_parts_merge (agg NUnique e) frame k parts fit lits on values h = agg_merges NUnique e frame k parts refl on values h
+typed_parts_merge (agg (Count b) e) frame k parts fit lits on values h = agg_merges (Count b) e frame k parts refl on values h
+typed_parts_merge (agg Implode e) frame k parts fit lits on values h = agg_merges Implode e frame k parts refl on values h
+typed_parts_merge (column n) frame k parts fit lits on values h = parts_merge (column n) frame k parts refl on values h
+typed_parts_merge (literal v) frame k parts fit lits on values h = parts_merge (literal v) frame k parts refl on values h
+typed_parts_merge (binary l op r) frame k parts fit lits on values h = parts_merge (binary l op r) frame k parts refl on values h
+typed_parts_merge (ternary p a b) frame k parts fit lits on values h = parts_merge (ternary p a b) frame k parts refl on values h
+typed_parts_merge (cast e to o) frame k parts fit lits on values h = parts_merge (cast e to o) frame k parts refl on values h
+typed_parts_merge (function es f) frame k parts fit lits on values h = parts_merge (function es f) frame k parts refl on values h
+typed_parts_merge (filter e by) frame k parts fit lits on values h = parts_merge (filter e by) frame k parts refl on values h
+typed_parts_merge (slice e offset size) frame k parts fit lits on values h = parts_merge (slice e offset size) frame k parts refl on values h
+typed_parts_merge (gather e idx one) frame k parts fit lits on values h = parts_merge (gather e idx one) frame k parts refl on values h
+typed_parts_merge (sort e o) frame k parts fit lits on values h = parts_merge (sort e o) frame k parts refl on values h
+typed_parts_merge (sort_by e by o) frame k parts fit lits on values h = parts_merge (sort_by e by o) frame k parts refl on values h
+typed_parts_merge len frame k parts fit lits on values h = parts_merge len frame k parts refl on values h
+typed_parts_merge (window f keys order mapping) frame k parts fit lits on values h = parts_merge (window f keys order mapping) frame k parts refl on values h

@@ -124,7 +124,7 @@ same_is : (w : Bool) (r : Result Kind PxError) (e : PxError) (k : Kind) → made
 same_is true r e k h = h
 same_is false r e k h = cc
 
-as_kind : (i k : Kind) (s : Slot) → i ≡ k → is_slot_of (kind_sort i) s ≡ true → is_slot_of (kind_sort k) s ≡ true
+pub as_kind : (i k : Kind) (s : Slot) → i ≡ k → is_slot_of (kind_sort i) s ≡ true → is_slot_of (kind_sort k) s ≡ true
 as_kind i k s e h = subst (λ j. is_slot_of (kind_sort j) s ≡ true) e h
 
 pub operated_sorted : (op : Operator) (i j k : Kind) (a b : Slot) → made_kind (operator_kind op i j) ≡ Some k → is_slot_of (kind_sort i) a ≡ true → is_slot_of (kind_sort k) (operated i op a b) ≡ true
@@ -264,10 +264,10 @@ items_sorted from to o (x ∷ xs) ds h =
     let p = before_parts (cast_slot from to o x) (items_cast to o (slots xs)) ds (sym (items_first from to o x xs) ∙ h) in
     ap (are_slots_of (kind_sort to)) p.4 ∙ (λ i. cast_slot_sorted from to o x p.0 p.2 i && items_sorted from to o xs p.1 p.3 i)
 
-unit_sorted : (n : ℕ) (s : Slot) (c : Cell) → unit s ≡ c → is_slot_of n s ≡ true → is_cell_of n c ≡ true
+pub unit_sorted : (n : ℕ) (s : Slot) (c : Cell) → unit s ≡ c → is_slot_of n s ≡ true → is_cell_of n c ≡ true
 unit_sorted n s c e h = ap (is_cell_of n) (sym e) ∙ h
 
-rows_sorted : (n : ℕ) (xs : List Slot) (c : Cell) → rows xs ≡ c → are_slots_of n xs ≡ true → is_cell_of n c ≡ true
+pub rows_sorted : (n : ℕ) (xs : List Slot) (c : Cell) → rows xs ≡ c → are_slots_of n xs ≡ true → is_cell_of n c ≡ true
 rows_sorted n xs c e h = ap (is_cell_of n) (sym e) ∙ h
 
 pub cast_sorted : (from to : Kind) (o : CastOptions) (a c : Cell) → cast_cell from to o a ≡ Ok c → is_cell_of (kind_sort to) c ≡ true
