@@ -1,7 +1,6 @@
 -- The least and the greatest of values of one sort: those of parts, merged, are those of the whole.
-use Rattle.std.proofs.Common.{◌≡◌, ℕ, ◌==◌, Bool, true, false, cond, ◌&&◌, List, [], ◌∷◌, ◌++◌, Option, Some, None, length, map, fold, subst, refl, sym, ◌∙◌, ap, arith}
+use Rattle.std.proofs.Common.{◌≡◌, ℕ, ◌==◌, Bool, true, false, cond, ◌&&◌, List, [], ◌∷◌, ◌++◌, Some, None, map, fold, refl, sym, ◌∙◌, ap, arith}
 use Rattle.std.specs.List.{flat_map, list_all, reduce}
-use Rattle.std.specs.Prelude.{filter_map}
 use Rattle.std.specs.Ordering.{bool_cmp, int_cmp, nat_cmp, is_lt, is_gt, ord_min, ord_max, ordering_reverse}
 use Rattle.std.specs.Cmp.{IsTotalOrder, bool_cmp_total}
 use Rattle.std.specs.Cmp.Lexicographic.{slice_cmp}
@@ -12,7 +11,7 @@ use Rattle.std.proofs.lemmas.Bool.Decides.{nat_tests}
 use Rattle.std.proofs.lemmas.Grind.{fold-append}
 use Rattle.std.proofs.lemmas.List.Elements.{filter_map-append}
 use Rattle.px_column.specs.Datum.{Datum, boolean, integer, text, bytes, list, Slot}
-use Rattle.px_column.specs.Kind.{Kind, booleans, int8s, int16s, int32s, int64s, uint8s, uint16s, uint32s, uint64s, strings, binaries, nulls, lists, fits, slot_fits, slots_fit, is_list_kind}
+use Rattle.px_column.specs.Kind.{Kind, booleans, int8s, int16s, int32s, int64s, uint8s, uint16s, uint32s, uint64s, strings, binaries, nulls, lists, fits, slot_fits}
 use Rattle.px_column.specs.Order.{datum_cmp}
 use Rattle.px_column.specs.Reduction.{values_of}
 use Rattle.px_laws.proofs.Joining.{both_true}

@@ -165,6 +165,9 @@ list_cell (rows xs) h = (xs, refl)
 value_is : (m : GroupByMethod) (j k : Kind) (c : Cell) (xs : List Slot) (d : Cell) (v : Slot) → j ≡ k → c ≡ rows xs → reduction_cell m k c ≡ d → value_of_cell d ≡ v → reduced_value m j xs ≡ v
 value_is m j k c xs d v ej ec ed ev = (λ i. value_of_cell (reduction_cell m (ej i) (sym ec i))) ∙ ap value_of_cell ed ∙ ev
 
+is_rows : (o : Option Cell) (c : Cell) (xs : List Slot) → o ≡ Some c → c ≡ rows xs → o ≡ Some (rows xs)
+is_rows o c xs h e = h ∙ ap Some e
+
 -- on some rows, a reduction's value is that of its input's list
 reduced_at : (m : GroupByMethod) (e : Tree) (frame : Frame) (p : List ℕ) (j : Kind) (v : Slot) → is_elementwise e (scope_of frame) ≡ true → refusals_of (agg m e) (scope_of frame) Aggregation ≡ [] → kind_in e (scope_of frame) ≡ Some j
     → value_at (agg m e) frame p ≡ Some v → (xs : List Slot) × (value_on e (rows_of_frame frame p) ≡ Some (rows xs)) × (reduced_value m j xs ≡ v)
@@ -177,7 +180,7 @@ reduced_at m e frame p j v w r kind h =
     let same_kind : Some j ≡ Some k.0 = sym kind ∙ ap (kind_in e) (sym (scope-rows frame p)) ∙ k.1 in
     let ej : j ≡ k.0 = cc in
     let cell : reduction_cell m k.0 c.0 ≡ made_cell.0 = let ok : Ok (reduction_cell m k.0 c.0) ≡ Ok made_cell.0 = made_ok (Ok (reduction_cell m k.0 c.0)) made_cell.0 c.2 in cc (ok) in
-    (xs.0, c.1 ∙ ap Some xs.1, value_is m j k.0 c.0 xs.0 made_cell.0 v ej xs.1 cell made_cell.2)
+    (xs.0, is_rows _ c.0 xs.0 c.1 xs.1, value_is m j k.0 c.0 xs.0 made_cell.0 v ej xs.1 cell made_cell.2)
 
 -- and the other way round
 at_reduced : (m : GroupByMethod) (e : Tree) (frame : Frame) (p : List ℕ) (j : Kind) (xs : List Slot) → kind_in e (scope_of frame) ≡ Some j → value_on e (rows_of_frame frame p) ≡ Some (rows xs) → value_at (agg m e) frame p ≡ Some (reduced_value m j xs)

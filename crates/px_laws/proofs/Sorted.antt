@@ -1,16 +1,13 @@
 -- An elementwise expression's values are of the sort of its type.
-use Rattle.std.proofs.Common.{◌≡◌, ℕ, ◌+◌, ◌==◌, zero, suc, ℤ, Bool, true, false, cond, not, ◌&&◌, ◌||◌, List, [], ◌∷◌, ◌++◌, Option, Some, None, Result, Ok, Err, option_map, length, map, replicate, subst, refl, sym, ◌∙◌, ap, arith}
-use Rattle.std.specs.List.{zip, list_all, list_any, flat_map}
+use Rattle.std.proofs.Common.{◌≡◌, ℕ, ◌==◌, zero, suc, ℤ, Bool, true, false, cond, not, ◌&&◌, List, [], ◌∷◌, Option, Some, None, Result, Ok, Err, map, replicate, subst, refl, sym, ◌∙◌, ap}
+use Rattle.std.specs.List.{zip, list_all}
 use Rattle.std.specs.Fmt.{signed_decimal}
-use Rattle.std.proofs.lemmas.Bool.Decides.{nat_tests}
-use Rattle.px_column.specs.Cast.{cast_slot, cast_slots, items_cast, datum_cast, boolean_cast, integer_cast, text_cast, bytes_cast, list_slot, lost, number_cast, written_cast, number_written, truth_text, truth_number, before}
+use Rattle.px_column.specs.Cast.{cast_slot, cast_slots, items_cast, datum_cast, boolean_cast, integer_cast, text_cast, bytes_cast, list_slot, lost, number_cast, written_cast, number_written, truth_text, truth_number}
 use Rattle.px_column.specs.Datum.{Datum, boolean, integer, text, bytes, list, Slot, Slots, no_slots, slots, items}
 use Rattle.px_column.specs.Function.{is_null_slot, is_not_null_slot, not_slot, between_slot, above, below}
-use Rattle.px_column.specs.Kind.{Kind, booleans, int8s, int16s, int32s, int64s, uint8s, uint16s, uint32s, uint64s, strings, binaries, nulls, lists, kind_eq, kind_number, kind_back, kind_round, slot_fits, slots_fit, is_list_kind}
-use Rattle.px_column.specs.Operator.{operated, operator_kind, operated_kind, kind_where, compared, of_numbers, divided, number_in, truth, truth_of, kleene_and, kleene_or, sum_slot, and_slot, or_slot, xor_slot, is_zero}
-use Rattle.px_column.specs.Option.{◌>>=◌}
-use Rattle.px_column.specs.Result.{◌>>=◌ as ◌>>>◌}
-use Rattle.px_column.specs.Series.{Series, slot_at}
+use Rattle.px_column.specs.Kind.{Kind, booleans, int8s, int16s, int32s, int64s, uint8s, uint16s, uint32s, uint64s, strings, binaries, nulls, lists, kind_eq}
+use Rattle.px_column.specs.Operator.{operated, operator_kind, kind_where, compared, of_numbers, divided, number_in, truth_of, kleene_and, kleene_or, sum_slot, and_slot, or_slot, xor_slot, is_zero}
+use Rattle.px_column.specs.Series.{slot_at}
 use Rattle.px_column.specs.Wrap.{is_in_range, wrapped_in}
 use Rattle.px_column.specs.declared.cast_options.CastOptions.{CastOptions}
 use Rattle.px_column.specs.declared.cast_options.CastOptions.TheVariants.{Strict, NonStrict, Overflowing}
@@ -24,7 +21,7 @@ use Rattle.px_plan.specs.Partition.{is_row_function}
 use Rattle.px_plan.specs.Typing.{made_kind, function_kind}
 use Rattle.px_plan.specs.declared.function.FunctionExpr.{FunctionExpr}
 use Rattle.px_plan.specs.declared.function.FunctionExpr.TheVariants.{IsNull, IsNotNull, Not, IsBetween, IsIn, Reverse, Shift, DropNulls, NullCount, Explode}
-use Rattle.px_laws.proofs.Extremes.{sort_of, kind_sort, is_of, is_slot_of}
+use Rattle.px_laws.proofs.Extremes.{kind_sort, is_slot_of}
 use Rattle.px_laws.proofs.Joining.{same_list, both_true, before_parts, items_first, both_ok}
 use Rattle.px_laws.proofs.Shapes.{result_bound}
 

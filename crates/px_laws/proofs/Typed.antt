@@ -1,36 +1,33 @@
 -- Where columns and literals fit their types, an elementwise expression's values are of the sort of its type.
-use Rattle.std.proofs.Common.{◌≡◌, ℕ, ◌==◌, Bool, true, false, cond, ◌&&◌, ◌||◌, List, [], ◌∷◌, ◌++◌, Option, Some, None, Result, Ok, Err, option_map, map, fold, subst, refl, sym, ◌∙◌, ap, arith}
+use Rattle.std.proofs.Common.{◌≡◌, ℕ, ◌==◌, Bool, true, false, cond, ◌&&◌, ◌||◌, List, [], ◌∷◌, ◌++◌, Option, Some, None, Ok, option_map, map, fold, subst, refl, sym, ◌∙◌, ap, arith}
 use Rattle.std.specs.List.{find, list_all, list_any}
 use Rattle.std.specs.Option.{option_or}
 use Rattle.std.specs.Prelude.{is_some}
 use Rattle.std.proofs.lemmas.Bool.Decides.{nat_tests}
-use Rattle.px_column.specs.Datum.{Slot}
-use Rattle.px_column.specs.Kind.{Kind, booleans, kind_eq, kind_number, kind_back, kind_round, slot_fits, slots_fit}
-use Rattle.px_column.specs.Operator.{operated, operator_kind, kind_where, is_boolean_kind}
-use Rattle.px_column.specs.Option.{◌>>=◌}
+use Rattle.px_column.specs.Kind.{Kind, kind_eq, kind_number, kind_back, kind_round}
+use Rattle.px_column.specs.Operator.{operated, kind_where, is_boolean_kind}
 use Rattle.px_column.specs.Series.{Series, slot_at}
-use Rattle.px_column.specs.declared.error.PxError.{PxError}
 use Rattle.px_column.specs.declared.error.PxError.TheVariants.{SchemaMismatch}
 use Rattle.px_column.proofs.Fitting.{fits_at}
 use Rattle.px_frame.specs.Cell.{Cell, unit, rows}
 use Rattle.px_frame.specs.External.{Frame, look_in, scope_of, rows_of_frame, with_field}
 use Rattle.px_frame.specs.Frame.{look, has_name, name_eq, slots_at}
-use Rattle.px_frame.specs.Schema.{FieldKind, column_field, has_field_name, is_field_name, field_names}
+use Rattle.px_frame.specs.Schema.{FieldKind, column_field, has_field_name, is_field_name}
 use Rattle.px_plan.specs.Node.{chosen, binary_cell}
 use Rattle.px_plan.specs.Nodes.{leaf_names}
 use Rattle.px_plan.specs.Partition.{is_elementwise, are_elementwise, is_row_function}
-use Rattle.px_plan.specs.Tree.{Tree, Trees, Literal, single, range, series, column, literal, alias, binary, ternary, cast, function, filter, slice, gather, sort, sort_by, agg, len, window}
-use Rattle.px_plan.specs.Typing.{Scope, kind_in, kinds_in, kind_of_name, made_kind, function_kind, refusals_of, refused_where, refusal_of, refusal_of_two, fails}
+use Rattle.px_plan.specs.Tree.{Tree, Literal, single, range, series, column, literal, alias, binary, ternary, cast, function, filter, slice, gather, sort, sort_by, agg, len, window}
+use Rattle.px_plan.specs.Typing.{Scope, kind_in, kinds_in, kind_of_name, refusals_of, refused_where, refusal_of, refusal_of_two, fails}
 use Rattle.px_plan.specs.Value.{value_on, outcome_on, made, cells_on, first_kind, is_misfit}
 use Rattle.px_plan.specs.declared.context.Context.TheVariants.{Aggregation}
 use Rattle.px_laws.proofs.Beside.{field_look, scope_stays}
 use Rattle.px_laws.proofs.Defined.{scope-rows, missing_stays}
-use Rattle.px_laws.proofs.Extremes.{kind_sort, is_slot_of, slot_fits_sort}
+use Rattle.px_laws.proofs.Extremes.{kind_sort, slot_fits_sort}
 use Rattle.px_laws.proofs.Joining.{neither, both_true, no_misfits, column_rows, under_name}
 use Rattle.px_laws.proofs.KindThere.{none_left, none_right, none_first, none_own, kind_there}
 use Rattle.px_laws.proofs.Shapes.{bound, made_bound, made_ok}
-use Rattle.px_laws.proofs.Sorted.{are_slots_of, is_cell_of, operated_sorted, cast_sorted, zip_sorted, three_sorted, choice_sorted, any_sorted, function_sorted, row_function_kind, rows_sorted, unit_sorted, as_kind}
-use Rattle.px_laws.specs.Fitting.{is_fitting, has_fitting_columns, is_fitting_literal, has_fitting_literals, have_fitting_literals}
+use Rattle.px_laws.proofs.Sorted.{is_cell_of, operated_sorted, cast_sorted, zip_sorted, three_sorted, choice_sorted, any_sorted, function_sorted, row_function_kind, rows_sorted, unit_sorted, as_kind}
+use Rattle.px_laws.specs.Fitting.{is_fitting, has_fitting_columns, is_fitting_literal, has_fitting_literals}
 
 names_same : (n m : List ℕ) → name_eq n m ≡ true → n ≡ m
 names_same [] [] h = refl
@@ -106,6 +103,7 @@ look_fits n frame s h g = by (look n frame.columns) refl g
   where
     parts : (list_all is_fitting frame.columns ≡ true) × (list_all is_fitting frame.external ≡ true)
     parts = both_true (list_all is_fitting frame.columns) (list_all is_fitting frame.external) h
+
     by : (o : Option Series) → look n frame.columns ≡ o → option_or o (look n frame.external) ≡ Some s → is_fitting s ≡ true
     by (Some t) e k = found_fits n frame.columns s parts.0 (e ∙ k)
     by None e k = found_fits n frame.external s parts.1 k
