@@ -49,13 +49,13 @@ with_stays n fields s h = by (is_field_name s.name fields)
     by true = refl
     by false = field_stays n fields (column_field s ∷ []) h
 
-scope_stays : (n : List ℕ) (fields : List FieldKind) (external : List Series) → is_some (find (has_field_name n) fields) ≡ true → find (has_field_name n) (fold with_field fields external) ≡ find (has_field_name n) fields
+pub scope_stays : (n : List ℕ) (fields : List FieldKind) (external : List Series) → is_some (find (has_field_name n) fields) ≡ true → find (has_field_name n) (fold with_field fields external) ≡ find (has_field_name n) fields
 scope_stays n fields [] h = refl
 scope_stays n fields (s ∷ external) h =
     let next = with_stays n fields s h in
     scope_stays n (with_field fields s) external (ap is_some next ∙ h) ∙ next
 
-field_look : (n : List ℕ) (columns : List Series) → find (has_field_name n) (map column_field columns) ≡ option_map column_field (look n columns)
+pub field_look : (n : List ℕ) (columns : List Series) → find (has_field_name n) (map column_field columns) ≡ option_map column_field (look n columns)
 field_look n [] = refl
 field_look n (s ∷ columns) = by (has_name n s) (field_look n columns)
   where

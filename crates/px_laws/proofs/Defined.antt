@@ -24,7 +24,7 @@ use Rattle.px_laws.proofs.KindThere.{There, none_left, none_right, none_first, k
 use Rattle.px_laws.proofs.Shapes.{bound, made_bound, map_found}
 
 -- a name that has a type stands for a column
-missing_stays : (n : List ℕ) (fields : List FieldKind) (s : Series) → find (has_field_name n) fields ≡ None → has_name n s ≡ false → find (has_field_name n) (with_field fields s) ≡ None
+pub missing_stays : (n : List ℕ) (fields : List FieldKind) (s : Series) → find (has_field_name n) fields ≡ None → has_name n s ≡ false → find (has_field_name n) (with_field fields s) ≡ None
 missing_stays n fields s h m = by (is_field_name s.name fields)
   where
     at_end : (fs : List FieldKind) → find (has_field_name n) fs ≡ None → find (has_field_name n) (fs ++ column_field s ∷ []) ≡ None

@@ -6,3 +6,10 @@ pub mod PartRows
 pub mod OrderedRows
 pub mod GroupRows
 pub mod FirstRows
+pub mod Joining
+pub mod Sums
+pub mod RowCount
+pub mod Merging
+pub mod Extremes
+pub mod Sorted
+pub mod Typed

@@ -57,7 +57,7 @@ shape-map_cell : (f : Slot → Slot) (c : Cell) → is_unit_cell (map_cell f c) 
 shape-map_cell f (unit s) = refl
 shape-map_cell f (rows xs) = refl
 
-result_bound : {A B : Type 0} (r : Result A PxError) (f : A → Result B PxError) (b : B) → (r >>> f) ≡ Ok b → (a : A) × (r ≡ Ok a) × (f a ≡ Ok b)
+pub result_bound : {A B : Type 0} (r : Result A PxError) (f : A → Result B PxError) (b : B) → (r >>> f) ≡ Ok b → (a : A) × (r ≡ Ok a) × (f a ≡ Ok b)
 result_bound (Ok a) f b h = (a, refl, h)
 result_bound (Err e) f b h = cc
 

@@ -1,2 +1,4 @@
 pub mod Beside
 pub mod Keyed
+pub mod Merge
+pub mod Fitting

@@ -1,9 +1,11 @@
 //! Laws of what expressions mean. A function here does nothing: its clauses are laws.
 #![tactic(auto)]
 
+mod merge;
 mod parts;
 mod value;
 
+pub use merge::partial_values_merge;
 pub use parts::{
     group_rows_are_the_frame, ordered_parts_hold_each_row_once, parts_are_the_rows_of_a_key,
     parts_hold_each_row_once, parts_stand_by_their_first_rows, spread_keeps_equal_lengths,
