@@ -11,7 +11,7 @@ pub returns-clause-result : goal.returns-clause-result
 unfolding serde_json_on_literals int_wrap
 returns-clause-result c = record {
   doc = four_rows_doc (codes "x");
-  document = record { says = record { short = lit< tt; utf8 = (document_text (codes "x"), (refl, refl)); says = refl }; frame = record { distinct = refl; even = refl } };
+  document = record { says = record { short = lit< tt; utf8 = (document_text (codes "x"), (refl, refl)); says = refl; built = refl }; frame = record { distinct = refl; even = refl } };
   valid = refl;
   made = four_grouped;
   plain = refl;
@@ -22,7 +22,7 @@ pub returns-clause-refusal : goal.returns-clause-refusal
 unfolding serde_json_on_literals
 returns-clause-refusal c = record {
   doc = four_rows_doc (codes "y");
-  document = record { says = record { short = lit< tt; utf8 = (document_text (codes "y"), (refl, refl)); says = refl }; frame = record { distinct = refl; even = refl } };
+  document = record { says = record { short = lit< tt; utf8 = (document_text (codes "y"), (refl, refl)); says = refl; built = refl }; frame = record { distinct = refl; even = refl } };
   fault = ColumnNotFound (codes "y");
   first = refl;
   written = refl;
