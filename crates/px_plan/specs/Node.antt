@@ -1,7 +1,6 @@
 -- What one node makes of its inputs' cells: a cell, or the node's own fault.
 use Rattle.std.specs.Prelude.{ℕ, ◌+◌, ◌-◌, ℤ, pos, negsuc, ◌+ℤ◌, ◌-ℤ◌, Bool, true, false, ◌&&◌, not, List, [], ◌∷◌, Option, Some, None, Result, Ok, Err, length, map, filter, reverse, nat_lt, if◌then◌else◌}
 use Rattle.std.specs.List.{list_all, range_with_len, zip}
-
 use Rattle.px_column.specs.Cast.{cast_slot, cast_slots}
 use Rattle.px_column.specs.Column.{null_count}
 use Rattle.px_column.specs.Datum.{Datum, boolean, integer, Slot}
