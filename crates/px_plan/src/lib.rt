@@ -4,6 +4,7 @@
 mod arena;
 mod context;
 mod copy;
+mod counting;
 mod expr;
 mod expr_ir;
 mod function;
@@ -21,6 +22,7 @@ mod window;
 
 pub use arena::Arena;
 pub use context::Context;
+pub use counting::fits_arena;
 pub use expr::{AggExpr, Expr, Exprs};
 pub use expr_ir::ExprIR;
 pub use function::FunctionExpr;
