@@ -17,6 +17,7 @@ use Rattle.px_frame.specs.External.{Frame, height, scope_of, rows_of_frame}
 use Rattle.px_frame.specs.Frame.{height_of, first_repeat}
 use Rattle.px_frame.specs.Groups.{first_row}
 use Rattle.px_frame.specs.Parts.{parts_of}
+use Rattle.px_frame.specs.Schema.{column_field}
 use Rattle.px_frame.specs.Spread.{NamedCell, spread, spread_column, spread_all, rows_beside, assembled}
 use Rattle.px_plan.specs.Node.{kept_rows}
 use Rattle.px_plan.specs.Partition.{is_elementwise, is_partition_safe}
@@ -102,12 +103,13 @@ no_key_refusal (k ∷ keys) = []
 abbrev pub repeat_refusal : List Tree → List PxError
 repeat_refusal es = option_map_or (λ n. Duplicate n ∷ []) (first_repeat [] (map name_of es)) []
 
--- chunks need elementwise keys and aggregations that can be merged, and their lengths make up the height
+-- chunks need elementwise keys and aggregations that can be merged, over the frame's own columns, and their lengths make
+-- up the height
 abbrev pub chunk_refusals : Frame → List Tree → List Tree → Option (List ℕ) → List PxError
 chunk_refusals frame keys aggs None = []
 chunk_refusals frame keys aggs (Some chunks) =
-    refused_where (list_any (λ e. not (is_elementwise e (scope_of frame))) keys) (ComputeError NotPartitionSafe)
-    ++ refused_where (list_any (λ e. not (is_partition_safe e (scope_of frame))) aggs) (ComputeError NotPartitionSafe)
+    refused_where (list_any (λ e. not (is_elementwise e (map column_field frame.columns))) keys) (ComputeError NotPartitionSafe)
+    ++ refused_where (list_any (λ e. not (is_partition_safe e (map column_field frame.columns))) aggs) (ComputeError NotPartitionSafe)
     ++ refused_where (not (sum chunks == height frame)) (ComputeError ChunkLengths)
 
 -- why a step is refused on a frame, the first refusal deciding: there is no key; the expressions' own, from left to right;
