@@ -47,16 +47,20 @@ joined (rows xs) b = rows (xs ++ list_of b)
 abbrev pub Joint : Result Cell PxError → Cell → Cell → Type 0
 Joint r a b = (r ≡ Ok (joined a b)) × Alike a b
 
+-- the same unit twice, where that is what is made
 as_units : (r : Result Cell PxError) (s : Slot) (a b : Cell) → r ≡ Ok (unit s) → unit s ≡ a → unit s ≡ b → Joint r a b
 as_units r s a b h e g = subst (λ x. Joint r x b) e (subst (λ y. Joint r (unit s) y) g (h, same_unit s))
 
+-- two lists, where what is made is the one after the other
 as_lists : (r : Result Cell PxError) (xs ys : List Slot) (a b : Cell) → r ≡ Ok (rows (xs ++ ys)) → rows xs ≡ a → rows ys ≡ b → Joint r a b
 as_lists r xs ys a b h e g = subst (λ x. Joint r x b) e (subst (λ y. Joint r (rows xs) y) g (h, two_lists xs ys))
 
+-- joined cells have the shape of the first
 joined_shape : {a b : Cell} → Alike a b → is_unit_cell (joined a b) ≡ is_unit_cell a
 joined_shape (same_unit s) = refl
 joined_shape (two_lists xs ys) = refl
 
+-- and the second has the same
 alike_shape : {a b : Cell} → Alike a b → is_unit_cell b ≡ is_unit_cell a
 alike_shape (same_unit s) = refl
 alike_shape (two_lists xs ys) = refl
@@ -66,6 +70,7 @@ pub data AllAlike : List Cell → List Cell → Type 0 where
   none_alike : AllAlike [] []
   more_alike : (a b : Cell) (cs ds : List Cell) → Alike a b → AllAlike cs ds → AllAlike (a ∷ cs) (b ∷ ds)
 
+-- cells joined side by side
 abbrev all_joined : List Cell → List Cell → List Cell
 all_joined [] ds = []
 all_joined (a ∷ cs) [] = []
@@ -77,6 +82,7 @@ beside_joins none_alike h = cc
 beside_joins (more_alike a b cs ds (same_unit s) more) h = beside_joins more h
 beside_joins (more_alike a b cs ds (two_lists xs ys) more) h = length-append xs ys
 
+-- a list that spreads is as long as the rows, and stays as it is
 pub same_list : (n : ℕ) (xs ys : List Slot) → spread n (rows xs) ≡ Ok ys → (xs ≡ ys) × (length xs ≡ n)
 same_list n xs ys h = by (length xs == n) refl h
   where
@@ -84,6 +90,7 @@ same_list n xs ys h = by (length xs == n) refl h
     by true e g = (cc, grind (arith, nat_tests))
     by false e g = cc
 
+-- a list as long as the rows spreads
 spread_list : (n : ℕ) (xs : List Slot) → length xs ≡ n → spread n (rows xs) ≡ Ok xs
 spread_list n xs e = ap (λ b. cond b (Ok xs) (Err ShapeMismatch)) (let t : (length xs == n) ≡ true = grind (arith, nat_tests) in t)
 
@@ -98,22 +105,26 @@ spread_joins n m xs ys (two_lists us vs) h g =
     let f = same_list m vs ys g in
     (spread_list (n + m) (us ++ vs) (length-append us vs ∙ (λ i. e.1 i + f.1 i)) ∙ (λ i. Ok (e.0 i ++ f.0 i)), ap length (sym e.0) ∙ e.1)
 
+-- pairs of lists joined are the pairs joined
 zip_append : {A B : Type 0} (xs us : List A) (ys vs : List B) → length xs ≡ length ys → zip (xs ++ us) (ys ++ vs) ≡ zip xs ys ++ zip us vs
 zip_append [] us [] vs h = refl
 zip_append [] us (y ∷ ys) vs h = absurd (omega arith)
 zip_append (x ∷ xs) us [] vs h = absurd (omega arith)
 zip_append (x ∷ xs) us (y ∷ ys) vs h = ap (λ ps. (x, y) ∷ ps) (zip_append xs us ys vs (omega arith))
 
+-- there are as many pairs as places
 pub length_zip : {A B : Type 0} (xs : List A) (ys : List B) → length xs ≡ length ys → length (zip xs ys) ≡ length xs
 length_zip [] ys h = refl
 length_zip (x ∷ xs) [] h = absurd (omega arith)
 length_zip (x ∷ xs) (y ∷ ys) h = ap suc (length_zip xs ys (omega arith))
 
+-- two cells that are not both units
 two_shapes : (a b : Bool) → (a && b) ≡ false → (a && (b && true)) ≡ false
 two_shapes true true h = h
 two_shapes true false h = refl
 two_shapes false b h = refl
 
+-- three cells that are not all units
 three_shapes : (a b c : Bool) → (a && (b && c)) ≡ false → (a && (b && (c && true))) ≡ false
 three_shapes true b c h = two_shapes b c h
 three_shapes false b c h = refl
@@ -143,11 +154,13 @@ zip_lists f {a = a} {u = u} {b = b} {v = v} c d s t shape h g =
     (ap (λ w. cell_of w (map each_pair (zip xs.0 ys.0))) (sym shape) ∙ ec)
     (ap (λ w. cell_of w (map each_pair (zip us.0 vs.0))) (sym after) ∙ ed)
 
+-- two cells row by row, joined
 pub zip_joins : (f : Slot → Slot → Slot) {a u b v : Cell} (c d : Cell) → Alike a u → Alike b v → zip_cells f a b ≡ Ok c → zip_cells f u v ≡ Ok d → Joint (zip_cells f (joined a u) (joined b v)) c d
 zip_joins f c d (same_unit s) (same_unit t) h g = as_units _ (f s t) c d refl (cc) (cc)
 zip_joins f c d (same_unit s) (two_lists xs ys) h g = zip_lists f c d (same_unit s) (two_lists xs ys) refl h g
 zip_joins f c d (two_lists xs ys) t h g = zip_lists f c d (two_lists xs ys) t refl h g
 
+-- three cells of which one is a list, row by row
 zip_three_lists : (f : Slot → Slot → Slot → Slot) {a u b v e w : Cell} (c d : Cell) → Alike a u → Alike b v → Alike e w → (is_unit_cell a && (is_unit_cell b && is_unit_cell e)) ≡ false
     → zip_three_cells f a b e ≡ Ok c → zip_three_cells f u v w ≡ Ok d → Joint (zip_three_cells f (joined a u) (joined b v) (joined e w)) c d
 zip_three_lists f {a = a} {u = u} {b = b} {v = v} {e = e} {w = w} c d s t r shape h g =
@@ -179,6 +192,7 @@ zip_three_lists f {a = a} {u = u} {b = b} {v = v} {e = e} {w = w} c d s t r shap
     (ap (λ k. cell_of k (map each_pair first)) (sym shape) ∙ ec)
     (ap (λ k. cell_of k (map each_pair last)) (sym after) ∙ ed)
 
+-- three cells row by row, joined
 pub zip_three_joins : (f : Slot → Slot → Slot → Slot) {a u b v e w : Cell} (c d : Cell) → Alike a u → Alike b v → Alike e w
     → zip_three_cells f a b e ≡ Ok c → zip_three_cells f u v w ≡ Ok d → Joint (zip_three_cells f (joined a u) (joined b v) (joined e w)) c d
 zip_three_joins f c d (same_unit s) (same_unit t) (same_unit r) h g = as_units _ (f s t r) c d refl (cc) (cc)
@@ -186,6 +200,7 @@ zip_three_joins f c d (same_unit s) (same_unit t) (two_lists xs ys) h g = zip_th
 zip_three_joins f c d (same_unit s) (two_lists xs ys) r h g = zip_three_lists f c d (same_unit s) (two_lists xs ys) r refl h g
 zip_three_joins f c d (two_lists xs ys) t r h g = zip_three_lists f c d (two_lists xs ys) t r refl h g
 
+-- each row by itself, joined
 map_joins : (f : Slot → Slot) {a b : Cell} (c d : Cell) → Alike a b → map_cell f a ≡ c → map_cell f b ≡ d → Joint (Ok (map_cell f (joined a b))) c d
 map_joins f c d (same_unit s) h g = as_units _ (f s) c d refl h g
 map_joins f c d (two_lists xs ys) h g = as_lists _ (map f xs) (map f ys) c d (ap (λ zs. Ok (rows zs)) (map-append f xs ys)) h g
@@ -197,14 +212,17 @@ before_parts (Ok s) (Err e) ds h = cc
 before_parts (Ok None) (Ok ts) ds h = let e : ds ≡ absent ts = cc in (None, ts, refl, refl, ap items e)
 before_parts (Ok (Some d)) (Ok ts) ds h = let e : ds ≡ present d ts = cc in (Some d, ts, refl, refl, ap items e)
 
+-- a place before others is there where both are
 before_made : (s : Slot) (ts : Slots) → (gs : Slots) × (before (Ok s) (Ok ts) ≡ Ok gs) × (items gs ≡ s ∷ items ts)
 before_made None ts = (absent ts, refl, refl)
 before_made (Some d) ts = (present d ts, refl, refl)
 
+-- the first place of a list in another type
 pub items_first : (from to : Kind) (o : CastOptions) (x : Slot) (xs : List Slot) → items_cast to o (slots (x ∷ xs)) ≡ before (cast_slot from to o x) (items_cast to o (slots xs))
 items_first from to o None xs = refl
 items_first from to o (Some d) xs = refl
 
+-- lists in another type, joined
 items_join : (from to : Kind) (o : CastOptions) (xs ys : List Slot) (ds es : Slots) → items_cast to o (slots xs) ≡ Ok ds → items_cast to o (slots ys) ≡ Ok es
     → (gs : Slots) × (items_cast to o (slots (xs ++ ys)) ≡ Ok gs) × (items gs ≡ items ds ++ items es)
 items_join from to o [] ys ds es h g = let e : no_slots ≡ ds = cc in (es, g, ap (λ ts. items ts ++ items es) e)
@@ -214,10 +232,12 @@ items_join from to o (x ∷ xs) ys ds es h g =
     let all = before_made p.0 rest.0 in
     (all.0, items_first from to o x (xs ++ ys) ∙ (λ i. before (p.2 i) (rest.1 i)) ∙ all.1, all.2 ∙ ap (λ zs. p.0 ∷ zs) rest.2 ∙ ap (λ zs. zs ++ items es) (sym p.4))
 
+-- places in another type come from items in it
 pub both_ok : (r : Result Slots PxError) (xs : List Slot) → result_map_both items (λ e. e) r ≡ Ok xs → (ds : Slots) × (r ≡ Ok ds) × (items ds ≡ xs)
 both_ok (Ok ds) xs h = (ds, refl, cc)
 both_ok (Err e) xs h = cc
 
+-- a cell in another type, joined
 pub cast_joins : (from to : Kind) (o : CastOptions) {a b : Cell} (c d : Cell) → Alike a b → cast_cell from to o a ≡ Ok c → cast_cell from to o b ≡ Ok d → Joint (cast_cell from to o (joined a b)) c d
 cast_joins from to o c d (same_unit s) h g =
     let t = result_bound (cast_slot from to o s) _ c h in
@@ -232,14 +252,17 @@ cast_joins from to o c d (two_lists xs ys) h g =
     let all = items_join from to o xs ys ds.0 es.0 ds.1 es.1 in
     as_lists _ t.0 u.0 c d ((λ i. result_map_both items (λ e. e) (all.1 i) >>> λ x. Ok (rows x)) ∙ ap (λ zs. Ok (rows zs)) (all.2 ∙ (λ i. ds.2 i ++ es.2 i))) (cc (t.2)) (cc (u.2))
 
+-- neither of two tests holds
 pub neither : (a b : Bool) → (a || b) ≡ false → (a ≡ false) × (b ≡ false)
 neither true b h = cc
 neither false b h = (refl, h)
 
+-- both of two tests hold
 pub both_true : (a b : Bool) → (a && b) ≡ true → (a ≡ true) × (b ≡ true)
 both_true true b h = (refl, h)
 both_true false b h = cc
 
+-- no name of two lists is one of a column of another height
 pub no_misfits : (frame : Frame) (xs ys : List (List ℕ)) → list_any (is_misfit frame) (xs ++ ys) ≡ false → (list_any (is_misfit frame) xs ≡ false) × (list_any (is_misfit frame) ys ≡ false)
 no_misfits frame xs ys h = neither _ _ (sym (list_any-append (is_misfit frame) xs ys) ∙ h)
 
@@ -253,6 +276,7 @@ look_columns n (s ∷ columns) p = by (has_name n s) (look_columns n columns p)
     by true rest = refl
     by false rest = rest
 
+-- a column beside the frame keeps its name on some rows
 same_name : (n : List ℕ) (h : ℕ) (p : List ℕ) (s : Series) → has_name n (external_at h p s) ≡ has_name n s
 same_name n h p s = by (length s.slots == h)
   where
@@ -260,6 +284,7 @@ same_name n h p s = by (length s.slots == h)
     by true = refl
     by false = refl
 
+-- and is found by it
 look_external : (n : List ℕ) (h : ℕ) (external : List Series) (p : List ℕ) → look n (map (external_at h p) external) ≡ option_map (external_at h p) (look n external)
 look_external n h [] p = refl
 look_external n h (s ∷ external) p =
@@ -270,10 +295,12 @@ look_external n h (s ∷ external) p =
     by true rest = refl
     by false rest = rest
 
+-- what is not untrue is true
 is_true_not : (b : Bool) → not b ≡ false → b ≡ true
 is_true_not true h = refl
 is_true_not false h = cc
 
+-- a column is found on some rows of a frame as those rows of it
 pub look_rows : (n : List ℕ) (frame : Frame) (p : List ℕ) → is_misfit frame n ≡ false → look_in n (rows_of_frame frame p) ≡ option_map (series_at p) (look_in n frame)
 look_rows n frame p h =
     (λ i. option_or (look_columns n frame.columns p i) (look_external n (height frame) frame.external p i)) ∙ by (look n frame.columns) (look n frame.external) h
@@ -292,6 +319,7 @@ column_rows n frame p h = ap (λ o. made (option_map (λ (s : Series). Ok (rows 
     by None = refl
     by (Some s) = refl
 
+-- a value under another name
 pub under_name : (o : Option Cell) → made (option_map Ok o) ≡ o
 under_name None = refl
 under_name (Some c) = refl
@@ -300,9 +328,11 @@ under_name (Some c) = refl
 abbrev pub JointOn : Option Cell → Cell → Cell → Type 0
 JointOn o a b = (o ≡ Some (joined a b)) × Alike a b
 
+-- what an outcome makes of two, joined
 of_result : (o : Option (Result Cell PxError)) (r : Result Cell PxError) (a b : Cell) → o ≡ Some r → Joint r a b → JointOn (made o) a b
 of_result o r a b h j = (ap made h ∙ ap (λ x. made (Some x)) j.0, j.1)
 
+-- a column's values, joined
 column_joins : (o : Option Series) (x : Option Cell) (p q : List ℕ) (a b : Cell) → x ≡ option_map (λ (s : Series). rows (slots_at s.slots (p ++ q))) o
     → option_map (λ (s : Series). rows (slots_at s.slots p)) o ≡ Some a → option_map (λ (s : Series). rows (slots_at s.slots q)) o ≡ Some b → JointOn x a b
 column_joins None x p q a b e h g = cc
@@ -312,11 +342,13 @@ column_joins (Some s) x p q a b e h g =
     let j = as_lists (Ok (rows (slots_at s.slots (p ++ q)))) (slots_at s.slots p) (slots_at s.slots q) a b (ap (λ zs. Ok (rows zs)) (map-append (slot_at s.slots) p q)) ea eb in
     (e ∙ ap (λ r. made (Some r)) j.0, j.1)
 
+-- a literal's value, joined
 literal_joins : (v : Literal) (s : Scope) (frame : Frame) (a b : Cell) → is_elementwise (literal v) s ≡ true → value_on (literal v) frame ≡ Some a → value_on (literal v) frame ≡ Some b → JointOn (value_on (literal v) frame) a b
 literal_joins (single k x) s frame a b e h g = let j = as_units (Ok (unit x)) x a b refl (cc) (cc) in (ap (λ r. made (Some r)) j.0, j.1)
 literal_joins (range low high k) s frame a b e h g = cc
 literal_joins (series t) s frame a b e h g = cc
 
+-- a row function of cells, joined
 function_joins : (f : FunctionExpr) (k : Kind) {cs ds : List Cell} (c d : Cell) → is_row_function f ≡ true → AllAlike cs ds → function_cell f k cs ≡ Ok c → function_cell f k ds ≡ Ok d → Joint (function_cell f k (all_joined cs ds)) c d
 function_joins IsNull k c d e none_alike h g = cc
 function_joins IsNull k c d e (more_alike a b cs ds s none_alike) h g = map_joins is_null_slot c d s (cc) (cc)
@@ -343,12 +375,15 @@ function_joins Explode k c d e more h g = cc
 same_kind : (e : Tree) (frame : Frame) (p q : List ℕ) (j k : Kind) → kind_in e (scope_of (rows_of_frame frame p)) ≡ Some j → kind_in e (scope_of (rows_of_frame frame q)) ≡ Some k → k ≡ j
 same_kind e frame p q j k h g = let same : Some k ≡ Some j = sym g ∙ ap (kind_in e) (scope_of_rows frame q ∙ sym (scope_of_rows frame p)) ∙ h in cc
 
+-- a type on some rows is that on others
 kind_on : (e : Tree) (frame : Frame) (p q : List ℕ) (k : Option Kind) → kind_in e (scope_of (rows_of_frame frame p)) ≡ k → kind_in e (scope_of (rows_of_frame frame q)) ≡ k
 kind_on e frame p q k h = ap (kind_in e) (scope_of_rows frame q ∙ sym (scope_of_rows frame p)) ∙ h
 
+-- so the types of several trees
 kinds_on : (es : Trees) (frame : Frame) (p q : List ℕ) (k : Option (List Kind)) → kinds_in es (scope_of (rows_of_frame frame p)) ≡ k → kinds_in es (scope_of (rows_of_frame frame q)) ≡ k
 kinds_on es frame p q k h = ap (kinds_in es) (scope_of_rows frame q ∙ sym (scope_of_rows frame p)) ∙ h
 
+-- so where they are there
 same_kinds : (es : Trees) (frame : Frame) (p q : List ℕ) (j k : List Kind) → kinds_in es (scope_of (rows_of_frame frame p)) ≡ Some j → kinds_in es (scope_of (rows_of_frame frame q)) ≡ Some k → k ≡ j
 same_kinds es frame p q j k h g = let same : Some k ≡ Some j = sym (kinds_on es frame q p (Some k) g) ∙ h in cc
 
@@ -424,6 +459,7 @@ mutual
   value_joins len s frame p q a b w m h g = cc
   value_joins (window f keys order mapping) s frame p q a b w m h g = cc
 
+  -- so the values of several trees
   cells_join : (es : Trees) (s : Scope) (frame : Frame) (p q : List ℕ) (xa xb : List Cell) → are_elementwise es s ≡ true → list_any (is_misfit frame) (all_leaf_names es) ≡ false
       → cells_on es (rows_of_frame frame p) ≡ Some xa → cells_on es (rows_of_frame frame q) ≡ Some xb → (cells_on es (rows_of_frame frame (p ++ q)) ≡ Some (all_joined xa xb)) × AllAlike xa xb
   cells_join no_trees s frame p q xa xb w m h g =

@@ -39,10 +39,12 @@ use Rattle.px_laws.specs.Fitting.{has_fitting_columns, has_fitting_literals}
 use Rattle.std.proofs.lemmas.List.Folds.{list_all-append}
 use Rattle.px_laws.specs.Merge.{has_rows, are_parts, rows_of_parts, value_at, OnParts, is_extreme, PartsMerge}
 
+-- what is mapped comes from what is there
 mapped : {A B : Type 0} (o : Option A) (f : A → B) (b : B) → option_map f o ≡ Some b → (a : A) × (o ≡ Some a) × (f a ≡ b)
 mapped None f b h = cc
 mapped (Some a) f b h = (a, refl, cc)
 
+-- the same is made of each by the same
 each_same : {A B : Type 0} (f g : A → Option B) (xs : List A) → ((x : A) → f x ≡ g x) → each f xs ≡ each g xs
 each_same f g [] h = refl
 each_same f g (x ∷ xs) h = λ i. h x i >>= λ y. option_map (λ ys. y ∷ ys) (each_same f g xs h i)
@@ -120,6 +122,7 @@ mutual
   literal_unit len s frame c w u h = cc
   literal_unit (window f keys order mapping) s frame c w u h = cc
 
+  -- so several of them
   literal_units : (es : Trees) (s : Scope) (frame : Frame) (cs : List Cell) → are_elementwise es s ≡ true → are_units es ≡ true → cells_on es frame ≡ Some cs → are_literal_trees es ≡ true
   literal_units no_trees s frame cs w u h = refl
   literal_units (one_tree t ts) s frame cs w u h =
@@ -129,6 +132,7 @@ mutual
       let xs = bound (cells_on ts frame) _ cs x.2 in
       λ i. literal_unit t s frame x.0 ew.0 eu.0 x.1 i && literal_units ts s frame xs.0 ew.1 eu.1 xs.1 i
 
+-- what is not refused does not pass the test
 not_refused : (b : Bool) (e : PxError) → refused_where b e ≡ [] → b ≡ false
 not_refused true e h = cc
 not_refused false e h = refl
@@ -151,6 +155,7 @@ ListsOn e frame [] [] = Unit {0}
 ListsOn e frame (p ∷ ps) (xs ∷ xss) = (value_on e (rows_of_frame frame p) ≡ Some (rows xs)) × ListsOn e frame ps xss
 ListsOn e frame _ _ = ⊥
 
+-- the places of all lists
 abbrev all_slots : List (List Slot) → List Slot
 all_slots xss = flat_map (λ xs. xs) xss
 
@@ -158,13 +163,16 @@ all_slots xss = flat_map (λ xs. xs) xss
 abbrev reduced_value : GroupByMethod → Kind → List Slot → Slot
 reduced_value m k xs = value_of_cell (reduction_cell m k (rows xs))
 
+-- a cell that is no unit is a list
 list_cell : (c : Cell) → is_unit_cell c ≡ false → (xs : List Slot) × (c ≡ rows xs)
 list_cell (unit s) h = cc
 list_cell (rows xs) h = (xs, refl)
 
+-- the value of a reduction of a list, as it was made
 value_is : (m : GroupByMethod) (j k : Kind) (c : Cell) (xs : List Slot) (d : Cell) (v : Slot) → j ≡ k → c ≡ rows xs → reduction_cell m k c ≡ d → value_of_cell d ≡ v → reduced_value m j xs ≡ v
 value_is m j k c xs d v ej ec ed ev = (λ i. value_of_cell (reduction_cell m (ej i) (sym ec i))) ∙ ap value_of_cell ed ∙ ev
 
+-- a value that is a list
 is_rows : (o : Option Cell) (c : Cell) (xs : List Slot) → o ≡ Some c → c ≡ rows xs → o ≡ Some (rows xs)
 is_rows o c xs h e = h ∙ ap Some e
 
@@ -208,6 +216,7 @@ lists_join e frame p (q ∷ ps) xs [] w m h on = absurd on
 lists_join e frame p (q ∷ ps) xs (ys ∷ xss) w m h on =
     (value_joins e (scope_of frame) frame p (rows_of_parts (q ∷ ps)) (rows xs) (rows (all_slots (ys ∷ xss))) w m h (lists_join e frame q ps ys xss w m on.0 on.1)).0
 
+-- so for one part or more
 lists_of_parts : (e : Tree) (frame : Frame) (parts : List (List ℕ)) (xss : List (List Slot)) → is_elementwise e (scope_of frame) ≡ true → list_any (is_misfit frame) (leaf_names e) ≡ false → are_parts parts ≡ true
     → ListsOn e frame parts xss → value_on e (rows_of_frame frame (rows_of_parts parts)) ≡ Some (rows (all_slots xss))
 lists_of_parts e frame [] xss w m some on = cc
@@ -219,15 +228,18 @@ abbrev has_slots : List Slot → Bool
 has_slots [] = false
 has_slots (x ∷ xs) = true
 
+-- one list or more, and each has places
 abbrev are_lists : List (List Slot) → Bool
 are_lists [] = false
 are_lists (xs ∷ xss) = list_all has_slots (xs ∷ xss)
 
+-- a list on rows has places
 some_slots : (p : List ℕ) (xs : List Slot) → length xs ≡ length p → has_rows p ≡ true → has_slots xs ≡ true
 some_slots p (x ∷ xs) h some = refl
 some_slots [] [] h some = cc
 some_slots (r ∷ p) [] h some = absurd (omega arith)
 
+-- so each list on parts that have rows
 all_slots_there : (e : Tree) (frame : Frame) (parts : List (List ℕ)) (xss : List (List Slot)) → is_elementwise e (scope_of frame) ≡ true → list_any (is_misfit frame) (leaf_names e) ≡ false → list_all has_rows parts ≡ true
     → ListsOn e frame parts xss → list_all has_slots xss ≡ true
 all_slots_there e frame [] [] w m some on = refl
@@ -237,6 +249,7 @@ all_slots_there e frame (p ∷ ps) (xs ∷ xss) w m some on =
     let s = both_true (has_rows p) (list_all has_rows ps) some in
     λ i. some_slots p xs (value_long e (scope_of frame) frame p (rows xs) w m on.0) s.0 i && all_slots_there e frame ps xss w m s.1 on.1 i
 
+-- and there is one where there is a part
 lists_there : (e : Tree) (frame : Frame) (parts : List (List ℕ)) (xss : List (List Slot)) → is_elementwise e (scope_of frame) ≡ true → list_any (is_misfit frame) (leaf_names e) ≡ false → are_parts parts ≡ true
     → ListsOn e frame parts xss → are_lists xss ≡ true
 lists_there e frame [] xss w m some on = cc
@@ -251,19 +264,23 @@ last_rest x y ys =
     let none : suc n - 1 ≡ n = omega arith in
     ap (slot_at (x ∷ y ∷ ys)) one ∙ ap (slot_at (y ∷ ys)) (sym none)
 
+-- what stands before a list is not its last place
 last_joined : (xs : List Slot) (y : Slot) (ys : List Slot) → slot_at (xs ++ y ∷ ys) (length (xs ++ y ∷ ys) - 1) ≡ slot_at (y ∷ ys) (length (y ∷ ys) - 1)
 last_joined [] y ys = refl
 last_joined (x ∷ []) y ys = last_rest x y ys
 last_joined (x ∷ z ∷ xs) y ys = last_rest x z (xs ++ y ∷ ys) ∙ last_joined (z ∷ xs) y ys
 
+-- lists joined have places where the first has
 some_left : (xs ys : List Slot) → has_slots xs ≡ true → has_slots (xs ++ ys) ≡ true
 some_left [] ys h = cc
 some_left (x ∷ xs) ys h = refl
 
+-- the last place of joined lists is that of the second
 last_of_joined : (xs ys : List Slot) → has_slots ys ≡ true → slot_at (xs ++ ys) (length (xs ++ ys) - 1) ≡ slot_at ys (length ys - 1)
 last_of_joined xs [] h = cc
 last_of_joined xs (y ∷ ys) h = last_joined xs y ys
 
+-- so of several lists
 last_of_lists : (xs : List Slot) (xss : List (List Slot)) → list_all has_slots (xs ∷ xss) ≡ true
     → slot_at (all_slots (xs ∷ xss)) (length (all_slots (xs ∷ xss)) - 1) ≡ slot_at (map (λ ys. slot_at ys (length ys - 1)) (xs ∷ xss)) (length (map (λ ys. slot_at ys (length ys - 1)) (xs ∷ xss)) - 1)
 last_of_lists xs [] h = ap (λ ys. slot_at ys (length ys - 1)) (append-nil xs)
@@ -280,6 +297,7 @@ first_of_lists [] h = cc
 first_of_lists ([] ∷ xss) h = cc
 first_of_lists ((x ∷ xs) ∷ xss) h = refl
 
+-- so of one list or more
 last_is : (xss : List (List Slot)) → are_lists xss ≡ true
     → slot_at (all_slots xss) (length (all_slots xss) - 1) ≡ slot_at (map (λ ys. slot_at ys (length ys - 1)) xss) (length (map (λ ys. slot_at ys (length ys - 1)) xss) - 1)
 last_is [] h = cc
@@ -312,6 +330,7 @@ is_extreme_method Min = true
 is_extreme_method Max = true
 is_extreme_method _ = false
 
+-- a reduction of all places from those of the lists, but for the least and the greatest
 method_merges : (m : GroupByMethod) (j k : Kind) (xss : List (List Slot)) → is_merged_method m ≡ true → is_extreme_method m ≡ false → made_kind (reduced_kind m j) ≡ Some k → are_lists xss ≡ true → length (all_slots xss) < 2 ^ 32
     → reduced_value m j (all_slots xss) ≡ merged_by m k (map (reduced_value m j) xss)
 method_merges Min j k xss w x kind some short = cc
@@ -336,6 +355,7 @@ height_joins frame p q = by frame.columns
     by [] = omega arith
     by (s ∷ columns) = length-map (p ++ q) (slot_at s.slots) ∙ length-append p q ∙ (λ i. sym (length-map p (slot_at s.slots)) i + sym (length-map q (slot_at s.slots)) i)
 
+-- no rows have height 0
 height_none : (frame : Frame) → height (rows_of_frame frame []) ≡ 0
 height_none frame = by frame.columns
   where
@@ -343,6 +363,7 @@ height_none frame = by frame.columns
     by [] = refl
     by (s ∷ columns) = refl
 
+-- a frame of some rows is no higher than these
 height_within : (frame : Frame) (p : List ℕ) → height (rows_of_frame frame p) ≤ length p
 height_within frame p = by frame.columns
   where
@@ -350,10 +371,12 @@ height_within frame p = by frame.columns
     by [] = omega arith
     by (s ∷ columns) = omega (arith, length-map p (slot_at s.slots))
 
+-- something is made of each where f always makes it
 each_there : {A B : Type 0} (f : A → B) (xs : List A) → each (λ x. Some (f x)) xs ≡ Some (map f xs)
 each_there f [] = refl
 each_there f (x ∷ xs) = ap (option_map (λ ys. f x ∷ ys)) (each_there f xs)
 
+-- lengths of parts are added
 len_merges : (frame : Frame) (k : Kind) (parts : List (List ℕ)) → OnParts len frame k parts → PartsMerge len frame k parts
 len_merges frame k parts on values h =
     let count : List ℕ → ℕ = λ p. height (rows_of_frame frame p) in
@@ -362,6 +385,7 @@ len_merges frame k parts on values h =
     let few : count (rows_of_parts parts) < 2 ^ 32 = omega (arith, height_within frame (rows_of_parts parts), on.short) in
     ap Some (count_merges count parts (height_none frame) (height_joins frame) few ∙ (λ i. summed (ek i) (ev i)))
 
+-- a reduction, but for the least and the greatest
 agg_merges : (m : GroupByMethod) (e : Tree) (frame : Frame) (k : Kind) (parts : List (List ℕ)) → is_extreme_method m ≡ false → OnParts (agg m e) frame k parts → PartsMerge (agg m e) frame k parts
 agg_merges m e frame k parts x on values h =
     let safe = both_true (is_merged_method m) (is_elementwise e (scope_of frame)) on.safe in
@@ -374,6 +398,7 @@ agg_merges m e frame k parts x on values h =
     at_reduced m e frame (rows_of_parts parts) j.0 (all_slots lists.0) j.1 whole
     ∙ ap Some (method_merges m j.0 k lists.0 safe.0 x j.2 there short ∙ ap (merged_by m k) lists.2)
 
+-- an alias has the value of what it names
 under_alias : (e : Tree) (n : List ℕ) (frame : Frame) (p : List ℕ) → value_at (alias e n) frame p ≡ value_at e frame p
 under_alias e n frame p = ap (option_map value_of_cell) (under_name (value_on e (rows_of_frame frame p)))
 
@@ -420,12 +445,14 @@ unless_lists binaries k h e = absurd (omega arith)
 unless_lists nulls k h e = absurd (omega arith)
 unless_lists (lists j) k h e = cc
 
+-- where all places are of a sort, those of each list are
 all_are : (n : ℕ) (xss : List (List Slot)) → are_slots_of n (all_slots xss) ≡ true → list_all (are_slots_of n) xss ≡ true
 all_are n [] h = refl
 all_are n (xs ∷ xss) h =
     let s = both_true (are_slots_of n xs) (are_slots_of n (all_slots xss)) (sym (list_all-append (is_slot_of n) xs (all_slots xss)) ∙ h) in
     λ i. s.0 i && all_are n xss s.1 i
 
+-- the least or the greatest of all places from those of the lists
 extreme_merges : (m : GroupByMethod) (j k : Kind) (xss : List (List Slot)) → is_extreme_method m ≡ true → made_kind (reduced_kind m j) ≡ Some k → are_slots_of (kind_sort j) (all_slots xss) ≡ true
     → reduced_value m j (all_slots xss) ≡ merged_by m k (map (reduced_value m j) xss)
 extreme_merges Min j k xss x kind sorted = least_merges (kind_sort j) xss (unless_lists j k kind) (all_are (kind_sort j) xss sorted)
@@ -437,6 +464,7 @@ extreme_merges NUnique j k xss x kind sorted = cc
 extreme_merges (Count b) j k xss x kind sorted = cc
 extreme_merges Implode j k xss x kind sorted = cc
 
+-- a least or greatest value
 extreme_agg : (m : GroupByMethod) (e : Tree) (frame : Frame) (k : Kind) (parts : List (List ℕ)) → is_extreme_method m ≡ true → has_fitting_columns frame ≡ true → has_fitting_literals e ≡ true → OnParts (agg m e) frame k parts → PartsMerge (agg m e) frame k parts
 extreme_agg m e frame k parts x fit lits on values h =
     let safe = both_true (is_merged_method m) (is_elementwise e (scope_of frame)) on.safe in

@@ -29,6 +29,7 @@ abbrev pub IsLong : ℕ → Cell → Type 0
 IsLong n (unit s) = Unit {0}
 IsLong n (rows xs) = length xs ≡ n
 
+-- a cell that spreads has as many places as rows
 spread_long : (n : ℕ) (a : Cell) (xs : List Slot) → spread n a ≡ Ok xs → length xs ≡ n
 spread_long n (unit s) xs h = let e : replicate n s ≡ xs = cc in ap length (sym e) ∙ length-replicate n s
 spread_long n (rows ys) xs h = let e = same_list n ys xs h in ap length (sym e.0) ∙ e.1
@@ -38,9 +39,11 @@ abbrev AreLong : ℕ → List Cell → Type 0
 AreLong n [] = Unit {0}
 AreLong n (c ∷ cs) = IsLong n c × AreLong n cs
 
+-- a list of n places
 long_list : (n : ℕ) (xs : List Slot) (c : Cell) → rows xs ≡ c → length xs ≡ n → IsLong n c
 long_list n xs c e h = subst (IsLong n) e h
 
+-- a unit, whatever n is
 long_unit : (n : ℕ) (s : Slot) (c : Cell) → unit s ≡ c → IsLong n c
 long_unit n s c e = subst (IsLong n) e tt
 
@@ -56,11 +59,13 @@ zip_rows f n a b c m shape h =
     long_list n (map each_pair (zip xs.0 ys.0)) c (ap (λ w. cell_of w (map each_pair (zip xs.0 ys.0))) (sym shape) ∙ e)
     (length-map (zip xs.0 ys.0) each_pair ∙ length_zip xs.0 ys.0 (x ∙ sym y) ∙ x ∙ m)
 
+-- two cells row by row
 zip_long : (f : Slot → Slot → Slot) (n : ℕ) (a b c : Cell) → IsLong n a → IsLong n b → zip_cells f a b ≡ Ok c → IsLong n c
 zip_long f n (unit s) (unit t) c x y h = long_unit n (f s t) c (cc)
 zip_long f n (unit s) (rows ys) c x y h = zip_rows f n (unit s) (rows ys) c y refl h
 zip_long f n (rows xs) b c x y h = zip_rows f n (rows xs) b c x refl h
 
+-- three cells row by row, where the rows beside each other are n
 zip_three_rows : (f : Slot → Slot → Slot → Slot) (n : ℕ) (a b d c : Cell) → rows_beside (a ∷ b ∷ d ∷ []) ≡ n → (is_unit_cell a && (is_unit_cell b && is_unit_cell d)) ≡ false → zip_three_cells f a b d ≡ Ok c → IsLong n c
 zip_three_rows f n a b d c m shape h =
     let each_pair = λ (p : Slot × (Slot × Slot)). f p.0 p.1.0 p.1.1 in
@@ -75,22 +80,26 @@ zip_three_rows f n a b d c m shape h =
     long_list n (map each_pair all) c (ap (λ w. cell_of w (map each_pair all)) (sym shape) ∙ e)
     (length-map all each_pair ∙ length_zip xs.0 (zip ys.0 zs.0) (x ∙ sym y ∙ sym (length_zip ys.0 zs.0 (y ∙ sym z))) ∙ x ∙ m)
 
+-- three cells row by row
 zip_three_long : (f : Slot → Slot → Slot → Slot) (n : ℕ) (a b d c : Cell) → IsLong n a → IsLong n b → IsLong n d → zip_three_cells f a b d ≡ Ok c → IsLong n c
 zip_three_long f n (unit s) (unit t) (unit r) c x y z h = long_unit n (f s t r) c (cc)
 zip_three_long f n (unit s) (unit t) (rows zs) c x y z h = zip_three_rows f n (unit s) (unit t) (rows zs) c z refl h
 zip_three_long f n (unit s) (rows ys) d c x y z h = zip_three_rows f n (unit s) (rows ys) d c y refl h
 zip_three_long f n (rows xs) b d c x y z h = zip_three_rows f n (rows xs) b d c x refl h
 
+-- each row by itself
 map_long : (f : Slot → Slot) (n : ℕ) (a c : Cell) → IsLong n a → map_cell f a ≡ c → IsLong n c
 map_long f n (unit s) c x h = long_unit n (f s) c h
 map_long f n (rows xs) c x h = long_list n (map f xs) c h (length-map xs f ∙ x)
 
+-- as many places in another type
 items_long : (from to : Kind) (o : CastOptions) (xs : List Slot) (ds : Slots) → items_cast to o (slots xs) ≡ Ok ds → length (items ds) ≡ length xs
 items_long from to o [] ds h = let e : no_slots ≡ ds = cc in ap (λ ts. length (items ts)) (sym e)
 items_long from to o (x ∷ xs) ds h =
     let p = before_parts (cast_slot from to o x) (items_cast to o (slots xs)) ds (sym (items_first from to o x xs) ∙ h) in
     ap length p.4 ∙ ap suc (items_long from to o xs p.1 p.3)
 
+-- a cell in another type
 cast_long : (from to : Kind) (o : CastOptions) (n : ℕ) (a c : Cell) → IsLong n a → cast_cell from to o a ≡ Ok c → IsLong n c
 cast_long from to o n (unit s) c x h = let t = result_bound (cast_slot from to o s) _ c h in long_unit n t.0 c (cc (t.2))
 cast_long from to o n (rows xs) c x h =
@@ -98,6 +107,7 @@ cast_long from to o n (rows xs) c x h =
     let ds = both_ok (items_cast to o (slots xs)) t.0 t.1 in
     long_list n t.0 c (cc (t.2)) (ap length (sym ds.2) ∙ items_long from to o xs ds.0 ds.1 ∙ x)
 
+-- a row function of cells
 function_long : (f : FunctionExpr) (k : Kind) (n : ℕ) (cs : List Cell) (c : Cell) → is_row_function f ≡ true → AreLong n cs → function_cell f k cs ≡ Ok c → IsLong n c
 function_long IsNull k n [] c e x h = cc
 function_long IsNull k n (a ∷ []) c e x h = map_long is_null_slot n a c x.0 (cc)
@@ -120,10 +130,12 @@ function_long DropNulls k n cs c e x h = cc
 function_long NullCount k n cs c e x h = cc
 function_long Explode k n cs c e x h = cc
 
+-- a column's rows
 column_long : (p : List ℕ) (o : Option Series) (c : Cell) → option_map (λ (s : Series). rows (slots_at s.slots p)) o ≡ Some c → IsLong (length p) c
 column_long p None c h = cc
 column_long p (Some s) c h = long_list (length p) (slots_at s.slots p) c (cc) (length-map p (slot_at s.slots))
 
+-- a literal is a unit
 literal_long : (v : Literal) (s : Scope) (n : ℕ) (frame : Frame) (c : Cell) → is_elementwise (literal v) s ≡ true → value_on (literal v) frame ≡ Some c → IsLong n c
 literal_long (single k x) s n frame c e h = long_unit n x c (cc)
 literal_long (range low high k) s n frame c e h = cc
@@ -168,6 +180,7 @@ mutual
   value_long len s frame p c w m h = cc
   value_long (window f keys order mapping) s frame p c w m h = cc
 
+  -- so the values of several trees
   cells_long : (es : Trees) (s : Scope) (frame : Frame) (p : List ℕ) (cs : List Cell) → are_elementwise es s ≡ true → list_any (is_misfit frame) (all_leaf_names es) ≡ false → cells_on es (rows_of_frame frame p) ≡ Some cs → AreLong (length p) cs
   cells_long no_trees s frame p cs w m h = let e : [] ≡ cs = cc in subst (AreLong (length p)) e tt
   cells_long (one_tree t ts) s frame p cs w m h =

@@ -29,6 +29,7 @@ use Rattle.px_laws.proofs.Shapes.{result_bound}
 abbrev pub are_slots_of : ℕ → List Slot → Bool
 are_slots_of n xs = list_all (is_slot_of n) xs
 
+-- a cell of a sort
 abbrev pub is_cell_of : ℕ → Cell → Bool
 is_cell_of n (unit s) = is_slot_of n s
 is_cell_of n (rows xs) = are_slots_of n xs
@@ -39,6 +40,7 @@ compared_sorted f None b = refl
 compared_sorted f (Some a) None = refl
 compared_sorted f (Some a) (Some b) = refl
 
+-- And of two truths is a truth, or a null
 and_truths : (p q : Option Bool) → is_slot_of 0 (kleene_and p q) ≡ true
 and_truths None None = refl
 and_truths None (Some true) = refl
@@ -48,6 +50,7 @@ and_truths (Some true) None = refl
 and_truths (Some true) (Some true) = refl
 and_truths (Some true) (Some false) = refl
 
+-- and so is Or
 or_truths : (p q : Option Bool) → is_slot_of 0 (kleene_or p q) ≡ true
 or_truths None None = refl
 or_truths None (Some true) = refl
@@ -71,6 +74,7 @@ numbers_sorted n f g (Some (integer x)) (Some (text y)) h = refl
 numbers_sorted n f g (Some (integer x)) (Some (bytes y)) h = refl
 numbers_sorted n f g (Some (integer x)) (Some (list y)) h = refl
 
+-- a quotient is a number, or a null
 divided_sorted : (n : ℕ) (f : ℤ → ℤ → ℤ) (k : Kind) (x y : ℤ) → (1 == n) ≡ true → is_slot_of n (divided f k x y) ≡ true
 divided_sorted n f k x y h = by (is_zero y)
   where
@@ -78,6 +82,7 @@ divided_sorted n f k x y h = by (is_zero y)
     by true = refl
     by false = h
 
+-- a sum is a number, a text or a null, as its left operand
 sum_sorted : (n : ℕ) (k : Kind) (a b : Slot) → is_slot_of n a ≡ true → is_slot_of n (sum_slot k a b) ≡ true
 sum_sorted n k None b h = refl
 sum_sorted n k (Some (boolean x)) b h = refl
@@ -96,14 +101,17 @@ sum_sorted n k (Some (text x)) (Some (text y)) h = h
 sum_sorted n k (Some (text x)) (Some (bytes y)) h = refl
 sum_sorted n k (Some (text x)) (Some (list y)) h = refl
 
+-- And is of its operands' sort
 and_sorted : (k : Kind) (a b : Slot) → is_slot_of (kind_sort k) a ≡ true → is_slot_of (kind_sort k) (and_slot k a b) ≡ true
 and_sorted booleans a b h = and_truths (truth_of a) (truth_of b)
 and_sorted k a b h = numbers_sorted (kind_sort k) _ (λ x y g. g) a b h
 
+-- and so is Or
 or_sorted : (k : Kind) (a b : Slot) → is_slot_of (kind_sort k) a ≡ true → is_slot_of (kind_sort k) (or_slot k a b) ≡ true
 or_sorted booleans a b h = or_truths (truth_of a) (truth_of b)
 or_sorted k a b h = numbers_sorted (kind_sort k) _ (λ x y g. g) a b h
 
+-- and so is Xor
 xor_sorted : (k : Kind) (a b : Slot) → is_slot_of (kind_sort k) a ≡ true → is_slot_of (kind_sort k) (xor_slot k a b) ≡ true
 xor_sorted booleans a b h = compared_sorted _ a b
 xor_sorted k a b h = numbers_sorted (kind_sort k) _ (λ x y g. g) a b h
@@ -113,17 +121,21 @@ where_kind : (w : Bool) (i k : Kind) → made_kind (kind_where w i) ≡ Some k �
 where_kind true i k h = cc
 where_kind false i k h = cc
 
+-- a comparison's type is that of truths
 compared_is : (w v : Bool) (e : PxError) (k : Kind) → made_kind (cond w (Err e) (kind_where v booleans)) ≡ Some k → booleans ≡ k
 compared_is true v e k h = cc
 compared_is false v e k h = where_kind v booleans k h
 
+-- operands of one type
 same_is : (w : Bool) (r : Result Kind PxError) (e : PxError) (k : Kind) → made_kind (cond w r (Err e)) ≡ Some k → made_kind r ≡ Some k
 same_is true r e k h = h
 same_is false r e k h = cc
 
+-- a place of the same type's sort
 pub as_kind : (i k : Kind) (s : Slot) → i ≡ k → is_slot_of (kind_sort i) s ≡ true → is_slot_of (kind_sort k) s ≡ true
 as_kind i k s e h = subst (λ j. is_slot_of (kind_sort j) s ≡ true) e h
 
+-- an operator's result is of its type's sort
 pub operated_sorted : (op : Operator) (i j k : Kind) (a b : Slot) → made_kind (operator_kind op i j) ≡ Some k → is_slot_of (kind_sort i) a ≡ true → is_slot_of (kind_sort k) (operated i op a b) ≡ true
 operated_sorted Eq i j k a b h x = as_kind booleans k _ (compared_is _ _ _ k h) (compared_sorted _ a b)
 operated_sorted EqValidity i j k a b h x = as_kind booleans k (operated i EqValidity a b) (compared_is _ _ _ k h) refl
@@ -149,14 +161,17 @@ operated_sorted LogicalOr i j k a b h x = as_kind booleans k _ (where_kind _ boo
 abbrev fine : Slot → Result Slot PxError
 fine s = Ok s
 
+-- a place that is what was made
 ok_sorted : (n : ℕ) (x s : Slot) → fine x ≡ Ok s → is_slot_of n x ≡ true → is_slot_of n s ≡ true
 ok_sorted n x s h g = let e : x ≡ s = cc in ap (is_slot_of n) (sym e) ∙ g
 
+-- what is left of a value that the type does not have
 lost_sorted : (n : ℕ) (o : CastOptions) (x s : Slot) → lost o x ≡ Ok s → is_slot_of n x ≡ true → is_slot_of n s ≡ true
 lost_sorted n Strict x s h g = cc
 lost_sorted n NonStrict x s h g = ok_sorted n None s h refl
 lost_sorted n Overflowing x s h g = ok_sorted n x s h g
 
+-- a number cast to an integer type
 number_sorted : (k : Kind) (o : CastOptions) (z : ℤ) (s : Slot) → number_cast k o z ≡ Ok s → is_slot_of 1 s ≡ true
 number_sorted k o z s h = by (is_in_range k z) h
   where
@@ -164,10 +179,12 @@ number_sorted k o z s h = by (is_in_range k z) h
     by true g = ok_sorted 1 (Some (integer z)) s g refl
     by false g = lost_sorted 1 o (Some (integer (wrapped_in k z))) s g refl
 
+-- a written number cast to an integer type
 written_sorted : (k : Kind) (o : CastOptions) (z : Option ℤ) (s : Slot) → written_cast k o z ≡ Ok s → is_slot_of 1 s ≡ true
 written_sorted k o None s h = lost_sorted 1 o None s h refl
 written_sorted k o (Some z) s h = number_sorted k o z s h
 
+-- a truth in another type
 boolean_sorted : (to : Kind) (b : Bool) (s : Slot) → boolean_cast to b ≡ Ok s → is_slot_of (kind_sort to) s ≡ true
 boolean_sorted booleans b s h = ok_sorted 0 (Some (boolean b)) s h refl
 boolean_sorted int8s b s h = ok_sorted 1 (Some (integer (truth_number b))) s h refl
@@ -183,6 +200,7 @@ boolean_sorted binaries b s h = cc
 boolean_sorted nulls b s h = cc
 boolean_sorted (lists j) b s h = cc
 
+-- a number in another type
 integer_sorted : (to : Kind) (o : CastOptions) (z : ℤ) (s : Slot) → integer_cast to o z ≡ Ok s → is_slot_of (kind_sort to) s ≡ true
 integer_sorted booleans o z s h = ok_sorted 0 (Some (boolean (not (is_zero z)))) s h refl
 integer_sorted int8s o z s h = number_sorted int8s o z s h
@@ -198,6 +216,7 @@ integer_sorted binaries o z s h = cc
 integer_sorted nulls o z s h = cc
 integer_sorted (lists j) o z s h = cc
 
+-- a text in another type
 text_sorted : (to : Kind) (o : CastOptions) (t : List ℕ) (s : Slot) → text_cast to o t ≡ Ok s → is_slot_of (kind_sort to) s ≡ true
 text_sorted booleans o t s h = cc
 text_sorted int8s o t s h = written_sorted int8s o (number_written t) s h
@@ -213,6 +232,7 @@ text_sorted binaries o t s h = ok_sorted 3 (Some (bytes t)) s h refl
 text_sorted nulls o t s h = cc
 text_sorted (lists j) o t s h = cc
 
+-- bytes in another type
 bytes_sorted : (to : Kind) (t : List ℕ) (s : Slot) → bytes_cast to t ≡ Ok s → is_slot_of (kind_sort to) s ≡ true
 bytes_sorted booleans t s h = cc
 bytes_sorted int8s t s h = cc
@@ -228,10 +248,12 @@ bytes_sorted binaries t s h = ok_sorted 3 (Some (bytes t)) s h refl
 bytes_sorted nulls t s h = cc
 bytes_sorted (lists j) t s h = cc
 
+-- a list stays a list
 list_sorted : (r : Result Slots PxError) (s : Slot) → list_slot r ≡ Ok s → is_slot_of 4 s ≡ true
 list_sorted (Ok ds) s h = ok_sorted 4 (Some (list ds)) s h refl
 list_sorted (Err e) s h = cc
 
+-- a value in another type
 datum_sorted : (to : Kind) (o : CastOptions) (d : Datum) (s : Slot) → datum_cast to o d ≡ Ok s → is_slot_of (kind_sort to) s ≡ true
 datum_sorted to o (boolean b) s h = boolean_sorted to b s h
 datum_sorted to o (integer z) s h = integer_sorted to o z s h
@@ -251,22 +273,27 @@ datum_sorted binaries o (list ds) s h = cc
 datum_sorted nulls o (list ds) s h = cc
 datum_sorted (lists j) o (list ds) s h = list_sorted (items_cast j o ds) s h
 
+-- a place in another type
 cast_slot_sorted : (from to : Kind) (o : CastOptions) (x s : Slot) → cast_slot from to o x ≡ Ok s → is_slot_of (kind_sort to) s ≡ true
 cast_slot_sorted from to o None s h = ok_sorted (kind_sort to) None s h refl
 cast_slot_sorted from to o (Some d) s h = datum_sorted to o d s h
 
+-- each place in another type
 items_sorted : (from to : Kind) (o : CastOptions) (xs : List Slot) (ds : Slots) → items_cast to o (slots xs) ≡ Ok ds → are_slots_of (kind_sort to) (items ds) ≡ true
 items_sorted from to o [] ds h = let e : no_slots ≡ ds = cc in ap (λ ts. are_slots_of (kind_sort to) (items ts)) (sym e)
 items_sorted from to o (x ∷ xs) ds h =
     let p = before_parts (cast_slot from to o x) (items_cast to o (slots xs)) ds (sym (items_first from to o x xs) ∙ h) in
     ap (are_slots_of (kind_sort to)) p.4 ∙ (λ i. cast_slot_sorted from to o x p.0 p.2 i && items_sorted from to o xs p.1 p.3 i)
 
+-- a unit that is what was made
 pub unit_sorted : (n : ℕ) (s : Slot) (c : Cell) → unit s ≡ c → is_slot_of n s ≡ true → is_cell_of n c ≡ true
 unit_sorted n s c e h = ap (is_cell_of n) (sym e) ∙ h
 
+-- a list that is what was made
 pub rows_sorted : (n : ℕ) (xs : List Slot) (c : Cell) → rows xs ≡ c → are_slots_of n xs ≡ true → is_cell_of n c ≡ true
 rows_sorted n xs c e h = ap (is_cell_of n) (sym e) ∙ h
 
+-- a cell in another type is of its sort
 pub cast_sorted : (from to : Kind) (o : CastOptions) (a c : Cell) → cast_cell from to o a ≡ Ok c → is_cell_of (kind_sort to) c ≡ true
 cast_sorted from to o (unit s) c h =
     let t = result_bound (cast_slot from to o s) _ c h in
@@ -281,18 +308,22 @@ repeat_sorted : (n m : ℕ) (s : Slot) → is_slot_of n s ≡ true → are_slots
 repeat_sorted n zero s h = refl
 repeat_sorted n (suc m) s h = λ i. h i && repeat_sorted n m s h i
 
+-- a cell spread is of its sort
 spread_sorted : (n m : ℕ) (a : Cell) (xs : List Slot) → is_cell_of n a ≡ true → spread m a ≡ Ok xs → are_slots_of n xs ≡ true
 spread_sorted n m (unit s) xs h g = let e : replicate m s ≡ xs = cc in ap (are_slots_of n) (sym e) ∙ repeat_sorted n m s h
 spread_sorted n m (rows ys) xs h g = ap (are_slots_of n) (sym (same_list m ys xs g).0) ∙ h
 
+-- and so is its first place
 first_sorted : (n : ℕ) (xs : List Slot) → are_slots_of n xs ≡ true → is_slot_of n (slot_at xs 0) ≡ true
 first_sorted n [] h = refl
 first_sorted n (x ∷ xs) h = (both_true (is_slot_of n x) (are_slots_of n xs) h).0
 
+-- rows as a unit or as a list
 cell_sorted : (n : ℕ) (b : Bool) (xs : List Slot) (c : Cell) → cell_of b xs ≡ c → are_slots_of n xs ≡ true → is_cell_of n c ≡ true
 cell_sorted n true xs c e h = unit_sorted n (slot_at xs 0) c e (first_sorted n xs h)
 cell_sorted n false xs c e h = rows_sorted n xs c e h
 
+-- what is made of pairs
 pairs_sorted : (n m : ℕ) (f : Slot → Slot → Slot) (xs ys : List Slot) → ((a b : Slot) → is_slot_of n a ≡ true → is_slot_of m (f a b) ≡ true) → are_slots_of n xs ≡ true → are_slots_of m (map (λ (p : Slot × Slot). f p.0 p.1) (zip xs ys)) ≡ true
 pairs_sorted n m f [] ys g h = refl
 pairs_sorted n m f (x ∷ xs) [] g h = refl
@@ -300,6 +331,7 @@ pairs_sorted n m f (x ∷ xs) (y ∷ ys) g h =
     let s = both_true (is_slot_of n x) (are_slots_of n xs) h in
     λ i. g x y s.0 i && pairs_sorted n m f xs ys g s.1 i
 
+-- two cells row by row
 pub zip_sorted : (n m : ℕ) (f : Slot → Slot → Slot) (a b c : Cell) → ((s t : Slot) → is_slot_of n s ≡ true → is_slot_of m (f s t) ≡ true) → is_cell_of n a ≡ true → zip_cells f a b ≡ Ok c → is_cell_of m c ≡ true
 zip_sorted n m f a b c g h z =
     let xs = result_bound (spread (rows_beside (a ∷ b ∷ [])) a) _ c z in
@@ -308,6 +340,7 @@ zip_sorted n m f a b c g h z =
     let e : cell_of (is_unit_cell a && is_unit_cell b) all ≡ c = cc (ys.2) in
     cell_sorted m _ all c e (pairs_sorted n m f xs.0 ys.0 g (spread_sorted n _ a xs.0 h xs.1))
 
+-- what is made of three places, where the last two are of a sort
 triples_sorted : (n m : ℕ) (f : Slot → Slot → Slot → Slot) (ps xs ys : List Slot) → ((p a b : Slot) → is_slot_of n a ≡ true → is_slot_of n b ≡ true → is_slot_of m (f p a b) ≡ true) → are_slots_of n xs ≡ true → are_slots_of n ys ≡ true
     → are_slots_of m (map (λ (p : Slot × (Slot × Slot)). f p.0 p.1.0 p.1.1) (zip ps (zip xs ys))) ≡ true
 triples_sorted n m f [] xs ys g h k = refl
@@ -318,6 +351,7 @@ triples_sorted n m f (p ∷ ps) (x ∷ xs) (y ∷ ys) g h k =
     let t = both_true (is_slot_of n y) (are_slots_of n ys) k in
     λ i. g p x y s.0 t.0 i && triples_sorted n m f ps xs ys g s.1 t.1 i
 
+-- three cells row by row
 pub three_sorted : (n : ℕ) (p a b c : Cell) (f : Slot → Slot → Slot → Slot) → ((s t u : Slot) → is_slot_of n t ≡ true → is_slot_of n u ≡ true → is_slot_of n (f s t u) ≡ true) → is_cell_of n a ≡ true → is_cell_of n b ≡ true → zip_three_cells f p a b ≡ Ok c → is_cell_of n c ≡ true
 three_sorted n p a b c f g h k z =
     let ps = result_bound (spread (rows_beside (p ∷ a ∷ b ∷ [])) p) _ c z in
@@ -342,10 +376,12 @@ pub any_sorted : {A : Type 0} (n : ℕ) (f : A → Slot) (xs : List A) → ((x :
 any_sorted n f [] h = refl
 any_sorted n f (x ∷ xs) h = λ i. h x i && any_sorted n f xs h i
 
+-- each row by itself
 map_sorted : (n : ℕ) (f : Slot → Slot) (a c : Cell) → ((s : Slot) → is_slot_of n (f s) ≡ true) → map_cell f a ≡ c → is_cell_of n c ≡ true
 map_sorted n f (unit s) c h e = unit_sorted n (f s) c e (h s)
 map_sorted n f (rows xs) c h e = rows_sorted n (map f xs) c e (any_sorted n f xs h)
 
+-- the other truth is a truth, or a null
 not_sorted : (s : Slot) → is_slot_of 0 (not_slot s) ≡ true
 not_sorted None = refl
 not_sorted (Some (boolean b)) = refl
@@ -354,6 +390,7 @@ not_sorted (Some (text x)) = refl
 not_sorted (Some (bytes x)) = refl
 not_sorted (Some (list ds)) = refl
 
+-- three cells row by row, where all that is made is a truth or a null
 between_sorted : (f : Slot → Slot → Slot → Slot) (a b d c : Cell) → ((s t u : Slot) → is_slot_of 0 (f s t u) ≡ true) → zip_three_cells f a b d ≡ Ok c → is_cell_of 0 c ≡ true
 between_sorted f a b d c h z =
     let each_three = λ (q : Slot × (Slot × Slot)). f q.0 q.1.0 q.1.1 in
@@ -364,6 +401,7 @@ between_sorted f a b d c h z =
     let e : cell_of (is_unit_cell a && (is_unit_cell b && is_unit_cell d)) (map each_three threes) ≡ c = cc (zs.2) in
     cell_sorted 0 _ (map each_three threes) c e (any_sorted 0 each_three threes (λ q. h q.0 q.1.0 q.1.1))
 
+-- a row function makes truths
 pub function_sorted : (f : FunctionExpr) (k : Kind) (cs : List Cell) (c : Cell) → is_row_function f ≡ true → function_cell f k cs ≡ Ok c → is_cell_of 0 c ≡ true
 function_sorted IsNull k [] c w h = cc
 function_sorted IsNull k (a ∷ []) c w h = map_sorted 0 is_null_slot a c (λ s. refl) (cc)

@@ -21,33 +21,41 @@ record Wraps (k : Kind) : Type 0 where
   left : (x y b : ℤ) → rest x ≡ rest y → rest (x +ℤ b) ≡ rest (y +ℤ b)
   right : (a b : ℤ) → rest (a +ℤ rest b) ≡ rest (a +ℤ b)
 
+-- a number modulo 2^32, read with a sign
 int32_is : (z : ℤ) → int_wrap w32 z ≡ wrapped int32s z
 unfolding int_wrap
 int32_is z = refl
 
+-- a number modulo 2^64, read with a sign
 int64_is : (z : ℤ) → int_wrap w64 z ≡ wrapped int64s z
 unfolding int_wrap
 int64_is z = refl
 
+-- without a sign it is the lowest 32 bits
 low32_is : (z : ℤ) → cast_unsigned w32 (int_wrap w32 z) ≡ low_bits 32 z
 unfolding int_wrap
 low32_is z = of_z-to_z w32 (low_bits 32 z) (low_bits_lt 32 z (omega arith))
 
+-- without a sign it is the lowest 64 bits
 low64_is : (z : ℤ) → cast_unsigned w64 (int_wrap w64 z) ≡ low_bits 64 z
 unfolding int_wrap
 low64_is z = of_z-to_z w64 (low_bits 64 z) (low_bits_lt 64 z (omega arith))
 
+-- a number of so few bits stays as it is
 low_once : (n m : ℕ) → m < 2 ^ n → low_bits n (pos m) ≡ m
 low_once n m h = mod-eq_of_lt h
 
+-- what is left in 32 bits is left again
 low32_once : (z : ℤ) → int_wrap w32 (pos (low_bits 32 z)) ≡ int_wrap w32 z
 unfolding int_wrap
 low32_once z = ap (cast_signed w32) (low_once 32 (low_bits 32 z) (low_bits_lt 32 z (omega arith)))
 
+-- what is left in 64 bits is left again
 low64_once : (z : ℤ) → int_wrap w64 (pos (low_bits 64 z)) ≡ int_wrap w64 z
 unfolding int_wrap
 low64_once z = ap (cast_signed w64) (low_once 64 (low_bits 64 z) (low_bits_lt 64 z (omega arith)))
 
+-- Int32 is read in 32 bits
 int32_wraps : Wraps int32s
 int32_wraps = record {
   rest = int_wrap w32;
@@ -57,6 +65,7 @@ int32_wraps = record {
   right = int_wrap-add_right w32;
 }
 
+-- Int64 is read in 64 bits
 int64_wraps : Wraps int64s
 int64_wraps = record {
   rest = int_wrap w64;
@@ -66,6 +75,7 @@ int64_wraps = record {
   right = int_wrap-add_right w64;
 }
 
+-- UInt32 is read in 32 bits
 uint32_wraps : Wraps uint32s
 uint32_wraps = record {
   rest = int_wrap w32;
@@ -75,6 +85,7 @@ uint32_wraps = record {
   right = int_wrap-add_right w32;
 }
 
+-- UInt64 is read in 64 bits
 uint64_wraps : Wraps uint64s
 uint64_wraps = record {
   rest = int_wrap w64;
@@ -84,6 +95,7 @@ uint64_wraps = record {
   right = int_wrap-add_right w64;
 }
 
+-- each type of sums has its width
 wraps : (k : Kind) → is_sum_kind k ≡ true → Wraps k
 wraps int32s h = int32_wraps
 wraps int64s h = int64_wraps
@@ -99,12 +111,15 @@ wraps binaries h = cc
 wraps nulls h = cc
 wraps (lists k) h = cc
 
+-- addition may be grouped either way
 add_assoc_z : (a b c : ℤ) → (a +ℤ b) +ℤ c ≡ a +ℤ (b +ℤ c)
 add_assoc_z a b c = omega (arith, ints)
 
+-- nothing is added by 0 on the right
 add_none_z : (a : ℤ) → a +ℤ pos 0 ≡ a
 add_none_z a = omega (arith, ints)
 
+-- nor on the left
 none_add_z : (a : ℤ) → pos 0 +ℤ a ≡ a
 none_add_z a = omega (arith, ints)
 
@@ -113,9 +128,11 @@ sum_from : (a b : ℤ) (zs : List ℤ) → fold ◌+ℤ◌ (a +ℤ b) zs ≡ a +
 sum_from a b [] = refl
 sum_from a b (z ∷ zs) = ap (λ c. fold ◌+ℤ◌ c zs) (add_assoc_z a b z) ∙ sum_from a (b +ℤ z) zs
 
+-- the whole sum from a start
 total_from : (b : ℤ) (xs : List Slot) → fold ◌+ℤ◌ b (map number_of xs) ≡ b +ℤ total xs
 total_from b xs = ap (λ c. fold ◌+ℤ◌ c (map number_of xs)) (sym (add_none_z b)) ∙ sum_from b (pos 0) (map number_of xs)
 
+-- sums added from starts that are the same modulo the width
 sums_from : (k : Kind) (w : Wraps k) (a b : ℤ) (xss : List (List Slot)) → w.rest a ≡ w.rest b
     → w.rest (fold ◌+ℤ◌ a (map number_of (map (summed k) xss))) ≡ w.rest (fold ◌+ℤ◌ b (map number_of (flat_map (λ (xs : List Slot). xs) xss)))
 sums_from k w a b [] h = h
@@ -138,9 +155,11 @@ counts_from : {A : Type 0} (count : List A → ℕ) (n : ℕ) (xss : List (List 
 counts_from count n [] none more = ap pos (omega arith)
 counts_from count n (xs ∷ xss) none more = counts_from count (n + count xs) xss none more ∙ ap pos (omega (arith, more xs (flat_map (λ ys. ys) xss)))
 
+-- a count below 2^32 stays as it is
 wrapped_below : (n : ℕ) → n < 2 ^ 32 → wrapped uint32s (pos n) ≡ pos n
 wrapped_below n h = ap pos (low_once 32 n h)
 
+-- the sum of counts is the count of all
 pub count_merges : {A : Type 0} (count : List A → ℕ) (xss : List (List A)) → count [] ≡ 0 → ((xs ys : List A) → count (xs ++ ys) ≡ count xs + count ys)
     → count (flat_map (λ (xs : List A). xs) xss) < 2 ^ 32 → count_slot (count (flat_map (λ (xs : List A). xs) xss)) ≡ summed uint32s (map (λ xs. count_slot (count xs)) xss)
 count_merges count xss none more h =

@@ -29,6 +29,7 @@ use Rattle.px_laws.proofs.Shapes.{bound, made_bound, made_ok}
 use Rattle.px_laws.proofs.Sorted.{is_cell_of, operated_sorted, cast_sorted, zip_sorted, three_sorted, choice_sorted, any_sorted, function_sorted, row_function_kind, rows_sorted, unit_sorted, as_kind}
 use Rattle.px_laws.specs.Fitting.{is_fitting, has_fitting_columns, is_fitting_literal, has_fitting_literals}
 
+-- names that pass the test are the same
 names_same : (n m : List ℕ) → name_eq n m ≡ true → n ≡ m
 names_same [] [] h = refl
 names_same [] (y ∷ ys) h = cc
@@ -39,6 +40,7 @@ names_same (x ∷ xs) (y ∷ ys) h =
     let e : x ≡ y = grind (arith, nat_tests) in
     λ i. e i ∷ names_same xs ys s.1 i
 
+-- a name that finds no field is no field's name
 no_field : (n : List ℕ) (fields : List FieldKind) → find (has_field_name n) fields ≡ None → is_field_name n fields ≡ false
 no_field n [] h = refl
 no_field n (f ∷ fields) h = by (name_eq n f.name) h (no_field n fields)
@@ -47,6 +49,7 @@ no_field n (f ∷ fields) h = by (name_eq n f.name) h (no_field n fields)
     by true g rest = cc
     by false g rest = rest g
 
+-- a field put last is found where none was
 at_end : (n : List ℕ) (fields : List FieldKind) (f : FieldKind) → find (has_field_name n) fields ≡ None → has_field_name n f ≡ true → find (has_field_name n) (fields ++ f ∷ []) ≡ Some f
 at_end n [] f h g = ap (λ b. cond b (Some f) None) g
 at_end n (e ∷ fields) f h g = by (has_field_name n e) h (at_end n fields f)
@@ -56,12 +59,14 @@ at_end n (e ∷ fields) f h g = by (has_field_name n e) h (at_end n fields f)
     by true k rest = cc
     by false k rest = rest k g
 
+-- a column beside the frame whose name is new has a field
 new_field : (n : List ℕ) (fields : List FieldKind) (s : Series) → find (has_field_name n) fields ≡ None → has_name n s ≡ true → find (has_field_name n) (with_field fields s) ≡ Some (column_field s)
 new_field n fields s h g =
     let e = names_same n s.name g in
     let missing = no_field s.name fields (ap (λ m. find (has_field_name m) fields) (sym e) ∙ h) in
     ap (λ b. find (has_field_name n) (cond b fields (fields ++ column_field s ∷ []))) missing ∙ at_end n fields (column_field s) h g
 
+-- and so the first of a name beside it
 beside_found : (n : List ℕ) (fields : List FieldKind) (external : List Series) (s : Series) → find (has_field_name n) fields ≡ None → look n external ≡ Some s → find (has_field_name n) (fold with_field fields external) ≡ Some (column_field s)
 beside_found n fields [] s h g = cc
 beside_found n fields (t ∷ external) s h g = by (has_name n t) refl g (λ e k. beside_found n (with_field fields t) external s (missing_stays n fields t h e) k)
@@ -87,6 +92,7 @@ kind_of_found n frame s h = by (look n frame.columns) refl h
         let missing : find (has_field_name n) (map column_field frame.columns) ≡ None = field_look n frame.columns ∙ ap (option_map column_field) e in
         ap (option_map (λ (f : FieldKind). f.kind)) (beside_found n (map column_field frame.columns) frame.external s missing g)
 
+-- a column that is found among fitting ones fits
 found_fits : (n : List ℕ) (columns : List Series) (s : Series) → list_all is_fitting columns ≡ true → look n columns ≡ Some s → is_fitting s ≡ true
 found_fits n [] s h g = cc
 found_fits n (t ∷ columns) s h g =
@@ -108,6 +114,7 @@ look_fits n frame s h g = by (look n frame.columns) refl g
     by (Some t) e k = found_fits n frame.columns s parts.0 (e ∙ k)
     by None e k = found_fits n frame.external s parts.1 k
 
+-- a column's values on some rows
 column_sorted : (n : List ℕ) (frame : Frame) (p : List ℕ) (o : Option Series) (k : Kind) (c : Cell) → look_in n frame ≡ o → has_fitting_columns frame ≡ true → kind_of_name n (scope_of frame) ≡ Some k
     → option_map (λ (s : Series). rows (slots_at s.slots p)) o ≡ Some c → is_cell_of (kind_sort k) c ≡ true
 column_sorted n frame p None k c e fit kind h = cc
@@ -118,6 +125,7 @@ column_sorted n frame p (Some s) k c e fit kind h =
     rows_sorted (kind_sort k) (slots_at s.slots p) c ec
     (any_sorted (kind_sort k) (slot_at s.slots) p (λ i. as_kind s.kind k (slot_at s.slots i) ek (slot_fits_sort s.kind (slot_at s.slots i) (fits_at s.kind s.slots i (look_fits n frame s fit e)))))
 
+-- a literal's value
 literal_sorted : (v : Literal) (s : Scope) (frame : Frame) (k : Kind) (c : Cell) → is_elementwise (literal v) s ≡ true → is_fitting_literal v ≡ true → kind_in (literal v) s ≡ Some k → value_on (literal v) frame ≡ Some c → is_cell_of (kind_sort k) c ≡ true
 literal_sorted (single j x) s frame k c w fit kind h =
     let e : j ≡ k = cc in
@@ -126,13 +134,16 @@ literal_sorted (single j x) s frame k c w fit kind h =
 literal_sorted (range low high j) s frame k c w fit kind h = cc
 literal_sorted (series t) s frame k c w fit kind h = cc
 
+-- types that pass the test are the same
 same_kinds : (i j : Kind) → kind_eq i j ≡ true → i ≡ j
 same_kinds i j h = let e : kind_number i ≡ kind_number j = grind (arith, nat_tests) in sym (kind_round i) ∙ ap kind_back e ∙ kind_round j
 
+-- a test that was not refused holds
 choices_same : (w : Bool) (i : Kind) → refusal_of (kind_where w i) ≡ [] → w ≡ true
 choices_same true i h = refl
 choices_same false i h = cc
 
+-- the values of an elementwise expression that is not refused
 pub value_sorted : (e : Tree) (frame : Frame) (p : List ℕ) (k : Kind) (c : Cell) → is_elementwise e (scope_of frame) ≡ true → list_any (is_misfit frame) (leaf_names e) ≡ false → has_fitting_columns frame ≡ true → has_fitting_literals e ≡ true
     → refusals_of e (scope_of frame) Aggregation ≡ [] → kind_in e (scope_of frame) ≡ Some k → value_on e (rows_of_frame frame p) ≡ Some c → is_cell_of (kind_sort k) c ≡ true
 value_sorted (column n) frame p k c w m fit lits r kind h =

@@ -13,6 +13,7 @@ use Rattle.px_plan.specs.Typing.{kind_in, refusals_of}
 use Rattle.px_plan.specs.Value.{value_on, has_misfit}
 use Rattle.px_plan.specs.declared.context.Context.TheVariants.{Aggregation}
 
+-- a part that has rows
 abbrev pub has_rows : List ℕ → Bool
 has_rows [] = false
 has_rows (r ∷ rs) = true
