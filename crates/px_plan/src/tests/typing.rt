@@ -1,12 +1,12 @@
 use crate::*;
 use Word::{
     Agg, Alias, B, By, Choose, Explode, Filter, Gather, Get, I, L, LargeRange, Len, NoKey, Null,
-    Of, OfThree, OfTwo, One, Ordered, Over, S, Slice, SmallRange, Sort, SortBy, ToBoolean, ToInt32,
-    True, X, Z,
+    Of, OfThree, OfTwo, One, OneRow, Ordered, Over, S, Slice, SmallRange, Sort, SortBy, ToBoolean,
+    ToInt32, True, X, Z,
 };
 use px_column::{
-    CastOptions, ClosedInterval, ComputeWhy, DataType, Flags, GroupByMethod, InvalidWhy, Name,
-    Operator, Px, PxError, SortMultipleOptions, SortOptions,
+    CastOptions, ClosedInterval, Column, ComputeWhy, DataType, Flags, GroupByMethod, InvalidWhy,
+    Name, Operator, Px, PxError, SortMultipleOptions, SortOptions,
 };
 use px_frame::{Field, Schema};
 use std::alloc::Global;
@@ -97,6 +97,7 @@ enum Word {
     True,
     Null,
     Len,
+    OneRow,
     SmallRange,
     LargeRange,
     Alias,
@@ -147,10 +148,17 @@ fn leaf(alloc: Global, word: Word) -> Px<Expr> {
         Word::True => Ok(Expr::Literal(LiteralValue::Boolean(true))),
         Word::Null => Ok(Expr::Literal(LiteralValue::Null)),
         Word::Len => Ok(Expr::Len),
+        Word::OneRow => one_row(alloc),
         Word::SmallRange => Ok(range(DataType::UInt32)),
         Word::LargeRange => Ok(range(DataType::UInt64)),
         _ => Ok(Expr::Column(Name::new(alloc, "z")?)),
     }
+}
+
+// A column of its own, of one null.
+fn one_row(alloc: Global) -> Px<Expr> {
+    let column = Column::full_null(alloc, Name::new(alloc, "r")?, 1, DataType::Boolean)?;
+    Ok(Expr::Literal(LiteralValue::Series(column)))
 }
 
 fn range(dtype: DataType) -> Expr {
@@ -398,6 +406,10 @@ const REVERSE_OF_TWO: Word = OfTwo(FunctionExpr::Reverse);
 const SAME: Word = By(Operator::EqValidity);
 
 const SHIFT: Word = Of(FunctionExpr::Shift(1));
+
+const LITERAL: Answer = Answer::Compute(ComputeWhy::AggLiteral);
+
+const ONE_VALUE: Answer = Answer::Compute(ComputeWhy::AggScalar);
 
 const SUM: Word = Agg(GroupByMethod::Sum);
 
@@ -653,6 +665,40 @@ fn units_are_imploded_on_groups(rt: HostRuntime) -> Result<(), Fail> {
             Answer::Compute(ComputeWhy::AggScalar)
         )?
     );
+    Ok(())
+}
+
+#[test]
+fn extremes_are_taken_of_rows(rt: HostRuntime) -> Result<(), Fail> {
+    let alloc = rt.alloc();
+    assert!(rt; is_told(alloc, &[X, IMPLODE, MIN], LIST, ABOVE)?);
+    assert!(rt; is_told(alloc, &[One, MAX], Answer::Int64, LITERAL)?);
+    assert!(rt; is_told(alloc, &[Len, MIN], Answer::UInt32, ONE_VALUE)?);
+    assert!(rt; is_told(alloc, &[X, IMPLODE, NUNIQUE], LIST, ABOVE)?);
+    assert!(rt; is_told(alloc, &[One, NUNIQUE], Answer::UInt32, LITERAL)?);
+    assert!(rt; is_told(alloc, &[Len, NUNIQUE], Answer::UInt32, ONE_VALUE)?);
+    Ok(())
+}
+
+#[test]
+fn ends_and_counts_are_taken_of_rows(rt: HostRuntime) -> Result<(), Fail> {
+    let alloc = rt.alloc();
+    assert!(rt; is_told(alloc, &[X, IMPLODE, FIRST], Answer::ListOfInt64, ABOVE)?);
+    assert!(rt; is_told(alloc, &[One, LAST], Answer::Int64, LITERAL)?);
+    assert!(rt; is_told(alloc, &[Len, LAST], Answer::UInt32, ONE_VALUE)?);
+    assert!(rt; is_told(alloc, &[X, IMPLODE, COUNT], Answer::UInt32, ABOVE)?);
+    assert!(rt; is_told(alloc, &[One, COUNT], Answer::UInt32, LITERAL)?);
+    assert!(rt; is_told(alloc, &[Len, COUNT], Answer::UInt32, ONE_VALUE)?);
+    Ok(())
+}
+
+#[test]
+fn lists_are_not_imploded_twice_on_groups(rt: HostRuntime) -> Result<(), Fail> {
+    let alloc = rt.alloc();
+    assert!(rt; is_told(alloc, &[X, IMPLODE, IMPLODE], Answer::OtherType, ABOVE)?);
+    assert!(rt; is_told(alloc, &[Len, DROP_NULLS], Answer::UInt32, SCALAR)?);
+    assert!(rt; is_both(alloc, &[X, Alias], Answer::Int64)?);
+    assert!(rt; is_both(alloc, &[OneRow], Answer::Boolean)?);
     Ok(())
 }
 
