@@ -13,3 +13,4 @@ pub mod Merging
 pub mod Extremes
 pub mod Sorted
 pub mod Typed
+pub mod RangeCount

@@ -1,14 +1,17 @@
 //! Laws of the value of an expression.
-ghost use Rattle.std.specs.Prelude.{◌≡◌, List, [], ℕ, Some, true};
+ghost use Rattle.std.specs.Prelude.{◌≡◌, List, [], ℕ, Some, true, ◌&&◌, ℤ, ◌-ℤ◌, ◌∷◌};
 ghost use Rattle.std.specs.Option.{IsSome};
 ghost use Rattle.px_column.specs.Series.{Series};
+ghost use Rattle.px_column.specs.Datum.{integer};
+ghost use Rattle.px_column.specs.Kind.{Kind, fits};
 ghost use Rattle.px_frame.specs.Cell.{Cell};
 ghost use Rattle.px_frame.specs.External.{Frame, scope_of};
-ghost use Rattle.px_plan.specs.Node.{is_unit_cell};
+ghost use Rattle.px_plan.specs.Node.{is_unit_cell, natural};
 ghost use Rattle.px_laws.specs.Beside.{are_columns_of, beside};
 ghost use Rattle.px_plan.specs.Nodes.{leaf_names};
 ghost use Rattle.px_plan.specs.Shape.{is_unit, name_of};
-ghost use Rattle.px_plan.specs.Tree.{alias};
+ghost use Rattle.px_plan.specs.Size.{size_on};
+ghost use Rattle.px_plan.specs.Tree.{alias, literal, range};
 ghost use Rattle.px_plan.specs.Typing.{refusals_of};
 ghost use Rattle.px_plan.specs.Value.{faults_on, value_on};
 ghost use Rattle.px_plan.specs.View.{tree};
@@ -58,3 +61,10 @@ pub fn value_has_no_fault(expr: &Expr)
 {
     let _ = expr;
 }
+
+/// A range whose bounds lie in its type has as many values as its bounds are apart, and none where the
+/// high one is not above the low one.
+pub fn range_has_its_length()
+    ensures { (low high : ℤ) (k : Kind) (frame : Frame) → (fits k (integer low) && fits k (integer high)) ≡ true
+        → size_on (literal (range low high k)) (frame ∷ []) ≡ natural (high -ℤ low) }
+{}
