@@ -21,7 +21,9 @@ fn a_document_is_read(rt: HostRuntime) -> Result<(), Fail> {
     }
     assert_eq!(rt; document.steps.len(), 1);
     for step in &document.steps {
-        let Step::GroupAgg { keys, aggs, chunks } = step;
+        let Step::GroupAgg { keys, aggs, chunks } = step else {
+            return Err(Fail::from("the step is a group step"));
+        };
         assert_eq!(rt; keys.len(), 1);
         assert_eq!(rt; aggs.len(), 2);
         assert!(rt; chunks.is_none());
