@@ -82,7 +82,7 @@ fn aggregation(alloc: Global, expr: &Expr) -> Result<Aggregation, Fail> {
     match expr {
         Expr::Len => Ok(Aggregation::Len),
         Expr::Agg(AggExpr::Sum(input)) => Ok(Aggregation::Sum(column_name(alloc, input)?)),
-        Expr::Column(_) => Err(Fail::from("the expression is an aggregation")),
+        _ => Err(Fail::from("the expression is an aggregation")),
     }
 }
 
@@ -115,7 +115,9 @@ fn plain_text(alloc: Global, document: &Document) -> Result<ByteString, Fail> {
     let [step] = document.steps.as_slice() else {
         return Err(Fail::from("the document has one step"));
     };
-    let Step::GroupAgg { keys, aggs, .. } = step;
+    let Step::GroupAgg { keys, aggs, .. } = step else {
+        return Err(Fail::from("the step is a group step"));
+    };
     let keys = key_names(alloc, keys)?;
     let aggs = aggregations(alloc, aggs)?;
     let answer = plain_group_step(alloc, &document.frame, &keys, &aggs);
