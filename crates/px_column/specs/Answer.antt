@@ -19,6 +19,7 @@ abbrev pub AnswersBy : {X Y : Type 0} → (X → Y) → Result X PxError → Res
 AnswersBy view (Ok x) expected = expected ≡ Ok (view x)
 AnswersBy view (Err e) expected = Refuses e expected
 
+-- what was answered is what is expected, unless memory was wanting
 abbrev pub Answers : {X : Type 0} → Result X PxError → Result X PxError → Type 0
 Answers (Ok x) expected = expected ≡ Ok x
 Answers (Err e) expected = Refuses e expected

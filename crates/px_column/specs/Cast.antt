@@ -15,6 +15,7 @@ use Rattle.px_column.specs.declared.error.PxError.{PxError}
 use Rattle.px_column.specs.declared.error.PxError.TheVariants.{InvalidOperation}
 use Rattle.px_column.specs.declared.error.InvalidWhy.TheVariants.{CastLost, Types}
 
+-- the type of bytes
 abbrev pub is_binary_kind : Kind → Bool
 is_binary_kind binaries = true
 is_binary_kind _ = false
@@ -59,30 +60,35 @@ abbrev pub written_cast : Kind → CastOptions → Option ℤ → Result Slot Px
 written_cast to o None = lost o None
 written_cast to o (Some z) = number_cast to o z
 
+-- a truth as a text
 abbrev pub truth_text : Bool → List ℕ
 truth_text true = codes "true"
 truth_text false = codes "false"
 
+-- a truth as a number: one for true, zero for false
 abbrev pub truth_number : Bool → ℤ
 truth_number true = pos 1
 truth_number false = pos 0
 
--- what becomes of a truth, of a number, of a text and of bytes in each type that they are cast to
+-- what becomes of a truth in each type that it is cast to
 abbrev pub boolean_cast : Kind → Bool → Result Slot PxError
 boolean_cast booleans b = Ok (Some (boolean b))
 boolean_cast strings b = Ok (Some (text (truth_text b)))
 boolean_cast to b = if is_integer_kind to then Ok (Some (integer (truth_number b))) else Err (InvalidOperation Types)
 
+-- what becomes of a number in each type that it is cast to
 abbrev pub integer_cast : Kind → CastOptions → ℤ → Result Slot PxError
 integer_cast booleans o z = Ok (Some (boolean (not (is_zero z))))
 integer_cast strings o z = Ok (Some (text (signed_decimal z)))
 integer_cast to o z = if is_integer_kind to then number_cast to o z else Err (InvalidOperation Types)
 
+-- what becomes of a text in each type that it is cast to
 abbrev pub text_cast : Kind → CastOptions → List ℕ → Result Slot PxError
 text_cast strings o s = Ok (Some (text s))
 text_cast binaries o s = Ok (Some (bytes s))
 text_cast to o s = if is_integer_kind to then written_cast to o (number_written s) else Err (InvalidOperation Types)
 
+-- what becomes of bytes, which are cast to bytes alone
 abbrev pub bytes_cast : Kind → List ℕ → Result Slot PxError
 bytes_cast binaries s = Ok (Some (bytes s))
 bytes_cast _ s = Err (InvalidOperation Types)
@@ -94,12 +100,13 @@ before (Ok s) (Err e) = Err e
 before (Ok None) (Ok ds) = Ok (absent ds)
 before (Ok (Some d)) (Ok ds) = Ok (present d ds)
 
+-- the elements as one list, or their refusal
 abbrev pub list_slot : Result Slots PxError → Result Slot PxError
 list_slot (Ok ds) = Ok (Some (list ds))
 list_slot (Err e) = Err e
 
--- a value in another type, and what a list holds element by element; a value tells by itself of which type it is
 abbrev mutual
+  -- a value in another type; a value tells by itself of which type it is
   pub datum_cast : Kind → CastOptions → Datum → Result Slot PxError
   datum_cast to o (boolean b) = boolean_cast to b
   datum_cast to o (integer z) = integer_cast to o z
@@ -108,6 +115,7 @@ abbrev mutual
   datum_cast (lists to) o (list ds) = list_slot (items_cast to o ds)
   datum_cast _ o (list ds) = Err (InvalidOperation Types)
 
+  -- the elements of a list in another type, one by one, or the first refusal
   pub items_cast : Kind → CastOptions → Slots → Result Slots PxError
   items_cast to o no_slots = Ok no_slots
   items_cast to o (absent ds) = before (Ok None) (items_cast to o ds)

@@ -8,9 +8,11 @@ use Rattle.px_column.specs.declared.error.PxError.{PxError}
 use Rattle.px_column.specs.declared.error.PxError.TheVariants.{InvalidOperation}
 use Rattle.px_column.specs.declared.error.InvalidWhy.TheVariants.{CastLost}
 
+-- the refusal of a cast that loses a value
 abbrev pub refused : {A : Type 0} → Result A PxError
 refused = Err (InvalidOperation CastLost)
 
+-- casts between integers and truths: nulls, both ends of a type, both signs
 pub record NumberCastRows : Type 0 where
   pub null : cast_slot int64s int8s Strict gone ≡ Ok gone
   pub null_of_no_type : cast_slot nulls strings Strict gone ≡ Ok gone
@@ -28,6 +30,7 @@ pub record NumberCastRows : Type 0 where
   pub other_truth : cast_slot int64s booleans Strict (neg 2) ≡ Ok yes
   pub truth_same : cast_slot booleans booleans Strict yes ≡ Ok yes
 
+-- casts to texts and to bytes, and of texts to numbers: signs, leading zeros, what is no number
 pub record TextCastRows : Type 0 where
   pub digits : cast_slot int64s strings Strict (num 120) ≡ Ok (text_of (codes "120"))
   pub zero_digits : cast_slot int64s strings Strict (num 0) ≡ Ok (text_of (codes "0"))
@@ -53,6 +56,7 @@ pub record TextCastRows : Type 0 where
   pub text_bytes : cast_slot strings binaries Strict (text_of (codes "ab")) ≡ Ok (bytes_of (97 ∷ 98 ∷ []))
   pub bytes_same : cast_slot binaries binaries Strict (bytes_of (200 ∷ [])) ≡ Ok (bytes_of (200 ∷ []))
 
+-- casts of lists element by element, and of whole columns
 pub record ListCastRows : Type 0 where
   pub empty : cast_slot (lists int64s) (lists int8s) Strict (list_of []) ≡ Ok (list_of [])
   pub items : cast_slot (lists int64s) (lists strings) Strict (list_of (num 1 ∷ gone ∷ neg 2 ∷ [])) ≡ Ok (list_of (text_of (codes "1") ∷ gone ∷ text_of (codes "-2") ∷ []))
@@ -63,6 +67,7 @@ pub record ListCastRows : Type 0 where
   pub rows_refused : cast_slots int64s int8s Strict (num 1 ∷ gone ∷ num 300 ∷ []) ≡ refused
   pub no_rows : cast_slots int64s int8s Strict [] ≡ Ok []
 
+-- all the small cases of casts
 pub record CastRows : Type 0 where
   pub numbers : NumberCastRows
   pub texts : TextCastRows

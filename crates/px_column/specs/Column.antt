@@ -22,6 +22,7 @@ abbrev pub is_within : ℕ → Option ℕ → Bool
 is_within n None = true
 is_within n (Some i) = nat_lt i n
 
+-- each row that is asked for is there
 abbrev pub all_within : ℕ → List (Option ℕ) → Bool
 all_within n rows = list_all (is_within n) rows
 
@@ -29,5 +30,6 @@ all_within n rows = list_all (is_within n) rows
 abbrev pub taken : Series → List (Option ℕ) → Result Series PxError
 taken s rows = if all_within (length s.slots) rows then Ok (record { name = s.name; kind = s.kind; slots = map (taken_at s.slots) rows }) else Err OutOfBounds
 
+-- the number of nulls
 abbrev pub null_count : List Slot → ℕ
 null_count xs = count_by is_none xs

@@ -3,6 +3,7 @@ use Rattle.std.specs.Prelude.{◌≡◌, ℕ, ◌+◌, ℤ, Bool, List, [], ◌�
 use Rattle.std.proofs.Common.{ap}
 
 mutual
+  -- a value: a truth, a number, a text, bytes, or a list
   pub data Datum : Type 0 where
     boolean : Bool → Datum
     integer : ℤ → Datum
@@ -32,13 +33,14 @@ items no_slots = []
 items (absent ds) = None ∷ items ds
 items (present d ds) = Some d ∷ items ds
 
+-- places made items of a list and read back are the same places
 pub items-slots : (xs : List Slot) → items (slots xs) ≡ xs
 items-slots [] = refl
 items-slots (None ∷ xs) = ap (λ ys. None ∷ ys) (items-slots xs)
 items-slots (Some d ∷ xs) = ap (λ ys. Some d ∷ ys) (items-slots xs)
 
--- how large a value is: each list in it counts
 abbrev mutual
+  -- how large a value is: each list in it counts
   pub weight : Datum → ℕ
   weight (boolean b) = 0
   weight (integer z) = 0
@@ -46,14 +48,17 @@ abbrev mutual
   weight (bytes s) = 0
   weight (list ds) = weights ds + 1
 
+  -- how large the items of a list are together
   pub weights : Slots → ℕ
   weights no_slots = 0
   weights (absent ds) = weights ds
   weights (present d ds) = weight d + weights ds
 
+-- how large what stands at a place is; a null weighs nothing
 abbrev pub slot_weight : Slot → ℕ
 slot_weight None = 0
 slot_weight (Some d) = weight d
 
+-- how large some places are together
 abbrev pub list_weight : List Slot → ℕ
 list_weight xs = weights (slots xs)

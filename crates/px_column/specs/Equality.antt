@@ -4,13 +4,14 @@ use lib.Pointwise.{pointwise}
 use Rattle.std.specs.Ordering.{int_eq}
 use Rattle.px_column.specs.Datum.{Datum, boolean, integer, text, bytes, list, Slots, no_slots, absent, present, Slot, slots}
 
+-- the same truth
 abbrev pub bool_eq : Bool → Bool → Bool
 bool_eq true b = b
 bool_eq false true = false
 bool_eq false false = true
 
--- values of one kind with the same content
 abbrev mutual
+  -- values of one kind with the same content
   pub datum_eq : Datum → Datum → Bool
   datum_eq (boolean a) (boolean b) = bool_eq a b
   datum_eq (integer a) (integer b) = int_eq a b

@@ -11,10 +11,11 @@ use Rattle.px_column.specs.declared.closed_interval.ClosedInterval.TheVariants a
 use Rattle.px_column.specs.declared.operator.Operator.{Operator}
 use Rattle.px_column.specs.declared.operator.Operator.TheVariants.{Lt, LtEq, Gt, GtEq, And}
 
--- whether there is no value, and whether there is one; never a null
+-- whether there is no value; never a null
 abbrev pub is_null_slot : Slot → Slot
 is_null_slot s = truth (is_none s)
 
+-- whether there is a value; never a null
 abbrev pub is_not_null_slot : Slot → Slot
 is_not_null_slot s = truth (is_some s)
 
@@ -23,13 +24,14 @@ abbrev pub not_slot : Slot → Slot
 not_slot (Some (boolean b)) = truth (not b)
 not_slot _ = None
 
--- how a value stands to the low end of an interval, and to the high end
+-- how a value stands to the low end of an interval
 abbrev pub above : ClosedInterval → Operator
 above ends.Both = GtEq
 above ends.Left = GtEq
 above ends.Right = Gt
 above ends.None = Gt
 
+-- how a value stands to the high end of an interval
 abbrev pub below : ClosedInterval → Operator
 below ends.Both = LtEq
 below ends.Left = Lt
@@ -63,6 +65,7 @@ abbrev pub exploded_items : Slots → List Slot
 exploded_items no_slots = None ∷ []
 exploded_items ds = items ds
 
+-- what the list at a place holds, which is one null where there is no list
 abbrev pub exploded_slot : Slot → List Slot
 exploded_slot (Some (list ds)) = exploded_items ds
 exploded_slot _ = None ∷ []

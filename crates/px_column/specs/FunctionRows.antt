@@ -6,9 +6,11 @@ use Rattle.px_column.specs.Kind.{int64s}
 use Rattle.px_column.specs.Rows.{num, yes, no, gone, list_of}
 use Rattle.px_column.specs.declared.closed_interval.ClosedInterval.TheVariants as ends
 
+-- the rows 1 null 3
 abbrev pub three : List Slot
 three = num 1 ∷ gone ∷ num 3 ∷ []
 
+-- functions of single places: nulls, truths, both ends of an interval, membership
 pub record SlotFunctionRows : Type 0 where
   pub null : is_null_slot gone ≡ yes
   pub null_not : is_null_slot (num 0) ≡ no
@@ -34,6 +36,7 @@ pub record SlotFunctionRows : Type 0 where
   pub null_among : in_slot three gone ≡ gone
   pub in_nothing : in_slot [] (num 2) ≡ no
 
+-- functions of whole columns: shifts and slices past both ends, lists one after another
 pub record ColumnFunctionRows : Type 0 where
   pub later : shifted (pos 1) three ≡ gone ∷ num 1 ∷ gone ∷ []
   pub sooner : shifted (negsuc 0) three ≡ gone ∷ num 3 ∷ gone ∷ []
@@ -57,6 +60,7 @@ pub record ColumnFunctionRows : Type 0 where
   pub rows_to_end : window_of (negsuc 1) None three ≡ gone ∷ num 3 ∷ []
   pub rows_before_start : window_of (negsuc 4) (Some (pos 3)) three ≡ num 1 ∷ []
 
+-- all the small cases of functions
 pub record FunctionRows : Type 0 where
   pub slots : SlotFunctionRows
   pub columns : ColumnFunctionRows

@@ -4,6 +4,7 @@ use Rattle.std.specs.List.{range_with_len}
 use Rattle.px_column.specs.Datum.{Slot}
 use Rattle.px_column.specs.Series.{Series, slot_at}
 
+-- what the columns hold at a row
 abbrev pub key_at : List Series → ℕ → List Slot
 key_at by row = map (λ s. slot_at s.slots row) by
 

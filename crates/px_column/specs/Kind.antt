@@ -5,6 +5,7 @@ use Rattle.std.specs.Coded.{Coded, code_by, coded_ℕ}
 use Rattle.std.specs.List.{list_all}
 use Rattle.px_column.specs.Datum.{Datum, boolean, integer, text, bytes, list, Slots, no_slots, absent, present, Slot}
 
+-- a type of columns: truths, integers of eight kinds, texts, bytes, nulls alone, or lists of a type
 pub data Kind : Type 0 where
   booleans : Kind
   int8s : Kind
@@ -36,6 +37,7 @@ kind_number binaries = 10
 kind_number nulls = 11
 kind_number (lists k) = suc (suc (suc (suc (suc (suc (suc (suc (suc (suc (suc (suc (kind_number k))))))))))))
 
+-- the type of a number
 abbrev pub kind_back : ℕ → Kind
 kind_back zero = booleans
 kind_back (suc zero) = int8s
@@ -51,6 +53,7 @@ kind_back (suc (suc (suc (suc (suc (suc (suc (suc (suc (suc zero)))))))))) = bin
 kind_back (suc (suc (suc (suc (suc (suc (suc (suc (suc (suc (suc zero))))))))))) = nulls
 kind_back (suc (suc (suc (suc (suc (suc (suc (suc (suc (suc (suc (suc n)))))))))))) = lists (kind_back n)
 
+-- the type of a type's number is that type
 pub kind_round : (k : Kind) → kind_back (kind_number k) ≡ k
 kind_round booleans = refl
 kind_round int8s = refl
@@ -66,12 +69,15 @@ kind_round binaries = refl
 kind_round nulls = refl
 kind_round (lists k) = ap lists (kind_round k)
 
+-- types are told apart by their numbers
 abbrev pub coded_kind : Coded Kind
 coded_kind = code_by ℕ coded_ℕ kind_number kind_back kind_round
 
+-- the same type
 abbrev pub kind_eq : Kind → Kind → Bool
 kind_eq a b = kind_number a == kind_number b
 
+-- a type of lists
 abbrev pub is_list_kind : Kind → Bool
 is_list_kind (lists k) = true
 is_list_kind _ = false
@@ -86,8 +92,8 @@ abbrev pub is_unsigned : ℕ → ℤ → Bool
 is_unsigned n (pos m) = nat_lt m n
 is_unsigned n (negsuc m) = false
 
--- a value fits a type when it is of that kind and, for integers, in the type's range; nothing fits Null
 abbrev mutual
+  -- a value fits a type when it is of that kind and, for integers, in the type's range; nothing fits Null
   pub fits : Kind → Datum → Bool
   fits booleans (boolean b) = true
   fits int8s (integer z) = is_signed 128 z
@@ -103,6 +109,7 @@ abbrev mutual
   fits (lists k) (list ds) = all_fit k ds
   fits _ _ = false
 
+  -- each item of a list fits the type of its elements; a null always does
   pub all_fit : Kind → Slots → Bool
   all_fit k no_slots = true
   all_fit k (absent ds) = all_fit k ds
@@ -113,5 +120,6 @@ abbrev pub slot_fits : Kind → Slot → Bool
 slot_fits k None = true
 slot_fits k (Some d) = fits k d
 
+-- each place fits the type
 abbrev pub slots_fit : Kind → List Slot → Bool
 slots_fit k xs = list_all (slot_fits k) xs

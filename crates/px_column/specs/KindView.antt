@@ -2,6 +2,7 @@
 use Rattle.px_column.specs.Kind.{Kind, booleans, int8s, int16s, int32s, int64s, uint8s, uint16s, uint32s, uint64s, strings, binaries, nulls, lists}
 use Rattle.px_column.specs.declared.data_type.DataType.{DataType, Boolean, Int8, Int16, Int32, Int64, UInt8, UInt16, UInt32, UInt64, String, Binary, Null, List'}
 
+-- the type that each `DataType` stands for
 abbrev pub kind_of : DataType → Kind
 kind_of Boolean = booleans
 kind_of Int8 = int8s

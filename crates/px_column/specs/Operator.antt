@@ -13,6 +13,7 @@ use Rattle.px_column.specs.declared.error.InvalidWhy.TheVariants.{ListKey, Types
 use Rattle.px_column.specs.declared.operator.Operator.{Operator}
 use Rattle.px_column.specs.declared.operator.Operator.TheVariants.{Eq, EqValidity, NotEq, NotEqValidity, Lt, LtEq, Gt, GtEq, Plus, Minus, Multiply, Divide, FloorDivide, Modulus, And, Or, Xor, LogicalAnd, LogicalOr}
 
+-- a type of integers
 abbrev pub is_integer_kind : Kind → Bool
 is_integer_kind int8s = true
 is_integer_kind int16s = true
@@ -24,14 +25,17 @@ is_integer_kind uint32s = true
 is_integer_kind uint64s = true
 is_integer_kind _ = false
 
+-- the type of truths
 abbrev pub is_boolean_kind : Kind → Bool
 is_boolean_kind booleans = true
 is_boolean_kind _ = false
 
+-- the type of texts
 abbrev pub is_string_kind : Kind → Bool
 is_string_kind strings = true
 is_string_kind _ = false
 
+-- an operator that compares two values
 abbrev pub is_comparison : Operator → Bool
 is_comparison Eq = true
 is_comparison EqValidity = true
@@ -71,6 +75,7 @@ operator_kind op a b =
     else
     (if kind_eq a b then operated_kind op a else Err (InvalidOperation Types))
 
+-- a truth at a place
 abbrev pub truth : Bool → Slot
 truth b = Some (boolean b)
 
@@ -88,6 +93,7 @@ of_numbers f _ _ = None
 abbrev pub number_in : Kind → ℤ → Slot
 number_in k z = Some (integer (wrapped_in k z))
 
+-- a number is zero
 abbrev pub is_zero : ℤ → Bool
 is_zero z = int_eq z (pos 0)
 
@@ -110,13 +116,14 @@ truth_of (Some (boolean b)) = Some b
 truth_of (Some (integer z)) = Some (not (is_zero z))
 truth_of _ = None
 
--- of three truths: false decides And, true decides Or, and else a missing one leaves it open
+-- And of truths that may be missing: false decides, and else a missing one leaves it open
 abbrev pub kleene_and : Option Bool → Option Bool → Slot
 kleene_and (Some false) _ = truth false
 kleene_and _ (Some false) = truth false
 kleene_and (Some true) (Some true) = truth true
 kleene_and _ _ = None
 
+-- Or of truths that may be missing: true decides, and else a missing one leaves it open
 abbrev pub kleene_or : Option Bool → Option Bool → Slot
 kleene_or (Some true) _ = truth true
 kleene_or _ (Some true) = truth true
@@ -128,15 +135,17 @@ abbrev pub sum_slot : Kind → Slot → Slot → Slot
 sum_slot k (Some (text s)) (Some (text t)) = Some (text (s ++ t))
 sum_slot k a b = of_numbers (λ x y. number_in k (x +ℤ y)) a b
 
--- And, Or and Xor: of truths with a missing one, or of numbers bit by bit in two's complement
+-- And of truths that may be missing, or of numbers bit by bit in two's complement
 abbrev pub and_slot : Kind → Slot → Slot → Slot
 and_slot booleans a b = kleene_and (truth_of a) (truth_of b)
 and_slot k a b = of_numbers (λ x y. number_in k (int_bit_and w128 x y)) a b
 
+-- Or of truths that may be missing, or of numbers bit by bit in two's complement
 abbrev pub or_slot : Kind → Slot → Slot → Slot
 or_slot booleans a b = kleene_or (truth_of a) (truth_of b)
 or_slot k a b = of_numbers (λ x y. number_in k (int_bit_or w128 x y)) a b
 
+-- Xor of truths, null where one is missing, or of numbers bit by bit in two's complement
 abbrev pub xor_slot : Kind → Slot → Slot → Slot
 xor_slot booleans a b = compared (λ x y. not (datum_eq x y)) a b
 xor_slot k a b = of_numbers (λ x y. number_in k (int_bit_xor w128 x y)) a b

@@ -5,6 +5,7 @@ use Rattle.px_column.specs.Operator.{operated}
 use Rattle.px_column.specs.Rows.{num, neg, yes, no, gone, text_of, bytes_of}
 use Rattle.px_column.specs.declared.operator.Operator.TheVariants.{Eq, EqValidity, NotEq, NotEqValidity, Lt, LtEq, Gt, GtEq, Plus, Minus, Multiply, Divide, FloorDivide, Modulus, And, Or, Xor, LogicalAnd, LogicalOr}
 
+-- comparisons: of the same and of other values, of nulls, of texts and bytes
 pub record ComparisonRows : Type 0 where
   pub eq : operated int64s Eq (num 3) (num 3) ≡ yes
   pub eq_differs : operated int64s Eq (num 3) (neg 3) ≡ no
@@ -32,6 +33,7 @@ pub record ComparisonRows : Type 0 where
   pub front_first : operated strings Lt (text_of (codes "a")) (text_of (codes "ab")) ≡ yes
   pub bytes : operated binaries Gt (bytes_of (200 ∷ [])) (bytes_of (127 ∷ 255 ∷ [])) ≡ yes
 
+-- sums, products, quotients and remainders: past both ends of a type, both signs, by zero, of nulls
 pub record ArithmeticRows : Type 0 where
   pub plus : operated int64s Plus (num 2) (neg 5) ≡ neg 3
   pub plus_null : operated int64s Plus (num 2) gone ≡ gone
@@ -67,6 +69,7 @@ pub record ArithmeticRows : Type 0 where
   pub rest_by_zero : operated int64s Modulus (num 7) (num 0) ≡ gone
   pub rest_of_least : operated int8s Modulus (neg 128) (neg 1) ≡ num 0
 
+-- And, Or and Xor: of truths and nulls, and of numbers bit by bit
 pub record LogicRows : Type 0 where
   pub and : operated booleans And yes yes ≡ yes
   pub and_no : operated booleans And yes no ≡ no
@@ -101,6 +104,7 @@ pub record LogicRows : Type 0 where
   pub logical_or_null : operated int64s LogicalOr (num 0) gone ≡ gone
   pub logical_or_truths : operated booleans LogicalOr gone yes ≡ yes
 
+-- all the small cases of operators
 pub record OperatorRows : Type 0 where
   pub comparisons : ComparisonRows
   pub arithmetic : ArithmeticRows

@@ -14,9 +14,11 @@ by descending nulls_last = record { descending = descending; nulls_last = nulls_
 abbrev pub five : List Slot
 five = num 2 ∷ gone ∷ num 1 ∷ num 2 ∷ gone ∷ []
 
+-- the five rows sorted, descending or not, nulls last or not
 abbrev pub five_sorted : Bool → Bool → List ℕ
 five_sorted descending nulls_last = sorted_rows ((by descending nulls_last, five) ∷ []) 5
 
+-- all the small cases of order
 pub record OrderRows : Type 0 where
   pub truths : datum_cmp (boolean false) (boolean true) ≡ Less
   pub texts : datum_cmp (text (codes "b")) (text (codes "ab")) ≡ Greater

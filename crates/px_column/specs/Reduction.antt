@@ -18,6 +18,7 @@ use Rattle.px_column.specs.declared.method.GroupByMethod.TheVariants.{Min, Max, 
 abbrev pub unless_list : Kind → Kind → Result Kind PxError
 unless_list k made = if is_list_kind k then Err (InvalidOperation ListKey) else Ok made
 
+-- the type, where there is one, else the refusal of types
 abbrev pub kind_there : Option Kind → Result Kind PxError
 kind_there (Some k) = Ok k
 kind_there None = Err (InvalidOperation Types)
@@ -55,9 +56,11 @@ distinct_slots xs = fold with_slot [] xs
 abbrev pub row_count : Bool → List Slot → ℕ
 row_count nulls xs = if nulls then length xs else count_by is_some xs
 
+-- a number of rows at a place
 abbrev pub count_slot : ℕ → Slot
 count_slot n = Some (integer (pos n))
 
+-- the sum in the type of sums, a null where there is no such type
 abbrev pub sum_slot : Option Kind → List Slot → Slot
 sum_slot None xs = None
 sum_slot (Some k) xs = summed k xs
@@ -78,5 +81,6 @@ abbrev pub reduced_as : GroupByMethod → Series → Result Kind PxError → Res
 reduced_as method s (Ok k) = Ok (record { name = s.name; kind = k; slots = reduced_slot method s.kind s.slots ∷ [] })
 reduced_as method s (Err e) = Err e
 
+-- a column reduced to one row, or the refusal of its type
 abbrev pub reduced : GroupByMethod → Series → Result Series PxError
 reduced method s = reduced_as method s (reduced_kind method s.kind)

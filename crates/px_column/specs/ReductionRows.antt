@@ -6,9 +6,11 @@ use Rattle.px_column.specs.Reduction.{reduced_slot}
 use Rattle.px_column.specs.Rows.{num, neg, yes, no, gone, list_of, text_of}
 use Rattle.px_column.specs.declared.method.GroupByMethod.TheVariants.{Min, Max, Sum, First, Last, NUnique, Count, Implode}
 
+-- the rows null 2 1
 abbrev pub null_two_one : List Slot
 null_two_one = gone ∷ num 2 ∷ num 1 ∷ []
 
+-- all the small cases of reductions
 pub record ReductionRows : Type 0 where
   pub min : reduced_slot Min int64s null_two_one ≡ num 1
   pub max : reduced_slot Max int64s null_two_one ≡ num 2

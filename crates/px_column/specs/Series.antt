@@ -6,6 +6,7 @@ use Rattle.px_column.specs.Datum.{Slot}
 use Rattle.px_column.specs.DatumCode.{coded_slots}
 use Rattle.px_column.specs.Kind.{Kind, coded_kind, slots_fit}
 
+-- a column: its name, its type and its places
 pub record Series : Type 0 where
   pub name : List ℕ
   pub kind : Kind
@@ -20,6 +21,7 @@ pub record IsColumn (kind : Kind) (xs : List Slot) : Type 0 where
   pub fit : slots_fit kind xs ≡ true
   pub short : length xs < 2 ^ 32
 
+-- columns are told apart by their names, types and places
 abbrev pub coded_series : Coded Series
 coded_series =
     code_by (List ℕ × (Kind × List Slot)) (coded× (coded_list coded_ℕ) (coded× coded_kind coded_slots))

@@ -27,6 +27,7 @@ sum_kind uint32s = Some uint32s
 sum_kind uint64s = Some uint64s
 sum_kind _ = None
 
+-- a type that sums have
 abbrev pub is_sum_kind : Kind → Bool
 is_sum_kind int32s = true
 is_sum_kind int64s = true

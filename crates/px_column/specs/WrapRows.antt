@@ -3,6 +3,7 @@ use Rattle.std.specs.Prelude.{◌≡◌, pos, negsuc, true, false}
 use Rattle.px_column.specs.Kind.{booleans, int8s, int16s, int32s, int64s, uint8s, uint16s, uint32s, uint64s}
 use Rattle.px_column.specs.Wrap.{wrapped_in, is_in_range}
 
+-- numbers at both ends of each integer type, and past them
 pub record WrapRows : Type 0 where
   pub int8_kept : wrapped_in int8s (pos 127) ≡ pos 127
   pub int8_past : wrapped_in int8s (pos 128) ≡ negsuc 127

@@ -22,6 +22,7 @@ key_column groups s = record s { slots = map (λ g. slot_at s.slots (first_row g
 abbrev pub sums_of : Kind → List Slot → Groups → List Slot
 sums_of k xs g = map (λ p. summed k (slots_at xs p.rows)) g.groups
 
+-- a column's sum for each group in this type of sums, or the refusal where there is none
 abbrev pub summed_by_kind : Option Kind → Series → Groups → Result Series PxError
 summed_by_kind None s g = Err (InvalidOperation Types)
 summed_by_kind (Some k) s g = Ok (record { name = s.name; kind = k; slots = sums_of k s.slots g })
@@ -34,5 +35,6 @@ summed_by s g = summed_by_kind (sum_kind s.kind) s g
 abbrev pub counts_of : Groups → List Slot
 counts_of g = map (λ p. Some (integer (pos (length p.rows)))) g.groups
 
+-- the number of rows of each group, as a column without a name
 abbrev pub count_column : Groups → Series
 count_column g = record { name = []; kind = uint32s; slots = counts_of g }

@@ -2,6 +2,7 @@
 use Rattle.std.specs.Prelude.{ℕ, List, [], ◌∷◌, Some, length}
 use Rattle.px_column.specs.Datum.{list, Slot, slots}
 
+-- one value, or one for each of some rows
 pub data Cell : Type 0 where
   unit : Slot → Cell
   rows : List Slot → Cell
@@ -16,5 +17,6 @@ abbrev pub value_of_cell : Cell → Slot
 value_of_cell (unit s) = s
 value_of_cell (rows xs) = Some (list (slots xs))
 
+-- the number of values of a cell, one for a unit
 abbrev pub count_of : Cell → ℕ
 count_of cell = length (list_of cell)

@@ -14,6 +14,7 @@ pub record Frame : Type 0 where
 abbrev pub alone : List Series → Frame
 alone columns = record { columns = columns; external = [] }
 
+-- the number of the frame's rows
 abbrev pub height : Frame → ℕ
 height frame = height_of frame.columns
 

@@ -8,9 +8,11 @@ use Rattle.px_column.specs.Series.{Series, slot_at}
 use Rattle.px_column.specs.declared.error.PxError.{PxError}
 use Rattle.px_column.specs.declared.error.PxError.TheVariants.{Duplicate, ShapeMismatch}
 
+-- the same name
 abbrev pub name_eq : List ℕ → List ℕ → Bool
 name_eq = pointwise ◌==◌
 
+-- a column has this name
 abbrev pub has_name : List ℕ → Series → Bool
 has_name n s = name_eq n s.name
 
@@ -18,6 +20,7 @@ has_name n s = name_eq n s.name
 abbrev pub look : List ℕ → List Series → Option Series
 look n frame = find (has_name n) frame
 
+-- the names of the columns, in their order
 abbrev pub names_of : List Series → List (List ℕ)
 names_of frame = map (λ s. s.name) frame
 
@@ -31,9 +34,11 @@ abbrev pub first_repeat : List (List ℕ) → List (List ℕ) → Option (List �
 first_repeat seen [] = None
 first_repeat seen (n ∷ ns) = if list_any (name_eq n) seen then Some n else first_repeat (seen ++ n ∷ []) ns
 
+-- a column has n rows
 abbrev pub has_height : ℕ → Series → Bool
 has_height n s = length s.slots == n
 
+-- each column has n rows
 abbrev pub all_have_height : ℕ → List Series → Bool
 all_have_height n frame = list_all (has_height n) frame
 
@@ -55,6 +60,7 @@ unless_repeated (Some n) made = Err (Duplicate n)
 abbrev pub frame_of : List Series → Result (List Series) PxError
 frame_of columns = unless_repeated (first_repeat [] (names_of columns)) (if is_even columns then Ok columns else Err ShapeMismatch)
 
+-- each row number is below n
 abbrev pub are_below : ℕ → List ℕ → Bool
 are_below n rows = list_all (λ r. nat_lt r n) rows
 

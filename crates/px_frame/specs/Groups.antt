@@ -10,10 +10,12 @@ use Rattle.px_column.specs.declared.error.ComputeWhy.TheVariants.{NoKey}
 use Rattle.px_frame.specs.Frame.{all_have_height, are_below}
 use Rattle.px_frame.specs.Parts.{parts_of}
 
+-- a group: a number, `first`, and the numbers of its rows
 pub record Group : Type 0 where
   pub first : ℕ
   pub rows : List ℕ
 
+-- groups of the rows of a frame of this height
 pub record Groups : Type 0 where
   pub height : ℕ
   pub groups : List Group
@@ -27,6 +29,7 @@ first_row (r ∷ rs) = r
 abbrev pub group_of : List ℕ → Group
 group_of rows = record { first = first_row rows; rows = rows }
 
+-- the rows of each group
 abbrev pub rows_of : Groups → List (List ℕ)
 rows_of g = map (λ p. p.rows) g.groups
 
@@ -43,6 +46,7 @@ pub record IsGroups (height : ℕ) (groups : List Group) : Type 0 where
 abbrev pub groups_by : List Series → ℕ → Groups
 groups_by by n = record { height = n; groups = map group_of (parts_of by n) }
 
+-- a column of lists
 abbrev pub is_list : Series → Bool
 is_list s = is_list_kind s.kind
 

@@ -8,9 +8,11 @@ use Rattle.px_frame.specs.declared.groups.GroupsType.TheVariants.{Idx}
 use Rattle.px_frame.specs.declared.groups.GroupsIndicator.{GroupsIndicator}
 use Rattle.px_frame.specs.declared.groups.GroupsIndicator.TheVariants.{Idx as Lent}
 
+-- a number and the rows beside it, as a group
 abbrev pub idx_group : ℕ × SmallVec ℕ 1 Global → Group
 idx_group p = record { first = p.0; rows = p.1.items }
 
+-- the groups that are kept, in their order
 abbrev pub groups_of : GroupsType → List Group
 groups_of (Idx v) = map idx_group v.items
 

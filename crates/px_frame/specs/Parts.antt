@@ -24,6 +24,7 @@ module _ {K : Type 0} where
     abbrev pub rows_of_keys : List K → List K → List (List ℕ)
     rows_of_keys firsts ks = map (λ k. numbers (eq k) 0 ks) firsts
 
+    -- for each key, in order of first appearance, the numbers of the rows that have it, rising
     abbrev pub parts : List K → List (List ℕ)
     parts ks = rows_of_keys (distinct ks) ks
 

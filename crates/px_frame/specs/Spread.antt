@@ -26,6 +26,7 @@ pub record NamedCell : Type 0 where
   pub kind : Kind
   pub cell : Cell
 
+-- a named cell's column of these places, or the refusal
 abbrev pub with_slots : NamedCell → Result (List Slot) PxError → Result Series PxError
 with_slots c (Ok xs) = Ok (record { name = c.name; kind = c.kind; slots = xs })
 with_slots c (Err e) = Err e
@@ -34,11 +35,13 @@ with_slots c (Err e) = Err e
 abbrev pub spread_column : ℕ → NamedCell → Result Series PxError
 spread_column n c = with_slots c (spread n c.cell)
 
+-- a column and those after it, or the first refusal
 abbrev pub before_all : Result Series PxError → Result (List Series) PxError → Result (List Series) PxError
 before_all (Ok s) (Ok ss) = Ok (s ∷ ss)
 before_all (Ok s) (Err e) = Err e
 before_all (Err e) others = Err e
 
+-- each named cell as a column of n rows, or the first refusal
 abbrev pub spread_all : ℕ → List NamedCell → Result (List Series) PxError
 spread_all n [] = Ok []
 spread_all n (c ∷ cells) = before_all (spread_column n c) (spread_all n cells)

@@ -20,8 +20,8 @@ is_fitting_literal (single k s) = slot_fits k s
 is_fitting_literal (range low high k) = true
 is_fitting_literal (series s) = is_fitting s
 
--- so each literal of an expression
 abbrev mutual
+  -- each literal of an expression fits its type
   pub has_fitting_literals : Tree → Bool
   has_fitting_literals (column n) = true
   has_fitting_literals (literal v) = is_fitting_literal v
@@ -39,10 +39,12 @@ abbrev mutual
   has_fitting_literals len = true
   has_fitting_literals (window f keys order mapping) = has_fitting_literals f && (have_fitting_literals keys && has_fitting_order order)
 
+  -- each literal of some expressions fits its type
   pub have_fitting_literals : Trees → Bool
   have_fitting_literals no_trees = true
   have_fitting_literals (one_tree t ts) = has_fitting_literals t && have_fitting_literals ts
 
+  -- each literal of what an order is by fits its type
   pub has_fitting_order : Order → Bool
   has_fitting_order no_order = true
   has_fitting_order (ordered t options) = has_fitting_literals t

@@ -18,14 +18,16 @@ use Rattle.px_plan.specs.declared.node.Node.{Node}
 abbrev pub tree_at : List Tree → Node → Tree
 tree_at ts n = slice_index_or ts n.0 t.len
 
+-- the trees at some places
 abbrev pub trees_at : List Tree → List Node → Trees
 trees_at ts ns = trees_of (map (tree_at ts) ns)
 
+-- an order by the tree at a place, or no order
 abbrev pub order_at : List Tree → Option (Node × SortOptions) → Order
 order_at ts None = no_order
 order_at ts (Some o) = ordered (tree_at ts o.0) o.1
 
--- what is reduced, and how
+-- what a reduction reduces
 abbrev pub agg_input : IRAggExpr → Node
 agg_input (agg.Min e) = e
 agg_input (agg.Max e) = e
@@ -36,6 +38,7 @@ agg_input (agg.NUnique e) = e
 agg_input (agg.Implode e) = e
 agg_input (agg.Count e b) = e
 
+-- how a reduction reduces
 abbrev pub agg_method : IRAggExpr → GroupByMethod
 agg_method (agg.Min e) = method.Min
 agg_method (agg.Max e) = method.Max
@@ -46,6 +49,7 @@ agg_method (agg.NUnique e) = method.NUnique
 agg_method (agg.Implode e) = method.Implode
 agg_method (agg.Count e b) = method.Count b
 
+-- the tree of a reduction of the tree at a place
 abbrev pub agg_tree : List Tree → IRAggExpr → Tree
 agg_tree ts a = t.agg (agg_method a) (tree_at ts (agg_input a))
 
@@ -68,14 +72,16 @@ node_tree ts (node.Agg a) = agg_tree ts a
 node_tree ts node.Len = t.len
 node_tree ts (node.Window f keys order options) = t.window (tree_at ts f) (trees_at ts keys.items) (order_at ts order) (mapping_of options)
 
--- whether a place stands before another, and whether each of some does
+-- whether a place stands before another
 abbrev pub is_below : ℕ → Node → Bool
 is_below i n = nat_lt n.0 i
 
+-- whether each of some places does
 abbrev pub all_below : ℕ → List Node → Bool
 all_below i [] = true
 all_below i (n ∷ ns) = is_below i n && all_below i ns
 
+-- whether the place of an order does, where there is one
 abbrev pub order_below : ℕ → Option (Node × SortOptions) → Bool
 order_below i None = true
 order_below i (Some o) = is_below i o.0

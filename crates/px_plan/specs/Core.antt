@@ -9,6 +9,7 @@ use Rattle.px_plan.specs.Shape.{is_unit, is_single, is_implode}
 use Rattle.px_plan.specs.Tree.{Tree, Trees, Order, no_trees, one_tree, no_order, ordered, column, literal, alias, binary, ternary, filter, slice, agg, len, window}
 use Rattle.px_plan.specs.Typing.{Scope, kind_in}
 
+-- there is a type, and it passes the test
 abbrev pub has_kind : (Kind → Bool) → Option Kind → Bool
 has_kind test None = false
 has_kind test (Some k) = test k
@@ -22,12 +23,13 @@ is_core_operator And k = has_kind is_boolean_kind k
 is_core_operator Or k = has_kind is_boolean_kind k
 is_core_operator op k = is_comparison op
 
+-- a literal of one value
 abbrev pub is_single_literal : Tree → Bool
 is_single_literal (literal v) = is_single v
 is_single_literal _ = false
 
--- the input of a reduction, a filter or a slice is a list, and so is a filter's mask
 abbrev mutual
+  -- a core expression: the input of a reduction, a filter or a slice is a list, and so is a filter's mask
   pub is_core : Tree → Scope → Bool
   is_core (column n) scope = true
   is_core (literal v) scope = is_single v
@@ -41,10 +43,12 @@ abbrev mutual
   is_core (window f keys order mapping) scope = is_core f scope && (are_core keys scope && is_core_order order scope)
   is_core _ scope = false
 
+  -- each of some expressions is a core expression
   pub are_core : Trees → Scope → Bool
   are_core no_trees scope = true
   are_core (one_tree t ts) scope = is_core t scope && are_core ts scope
 
+  -- an order is by a core expression, or there is none
   pub is_core_order : Order → Scope → Bool
   is_core_order no_order scope = true
   is_core_order (ordered t options) scope = is_core t scope

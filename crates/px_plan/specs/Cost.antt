@@ -13,9 +13,9 @@ use Rattle.px_plan.specs.Tree.{Tree, Trees, Order, no_trees, one_tree, no_order,
 use Rattle.px_plan.specs.Value.{named_on, order_on, parts_on}
 use Rattle.px_plan.specs.Window.{OrderCell, order_column}
 
--- evaluated on flat columns by one kernel a node: columns, single literals, aliases, operators, ternaries, functions of
--- one row, and casts that are never refused
 abbrev mutual
+  -- evaluated on flat columns by one kernel a node: columns, single literals, aliases, operators, ternaries, functions of
+  -- one row, and casts that are never refused
   pub is_flat_rows : Tree → Bool
   is_flat_rows (column n) = true
   is_flat_rows (literal v) = is_single v
@@ -27,6 +27,7 @@ abbrev mutual
   is_flat_rows (function es f) = is_row_function f && are_flat_rows es
   is_flat_rows _ = false
 
+  -- each of some expressions is such a one
   pub are_flat_rows : Trees → Bool
   are_flat_rows no_trees = true
   are_flat_rows (one_tree t ts) = is_flat_rows t && are_flat_rows ts
@@ -37,11 +38,12 @@ is_flat_reduction (alias e n) = is_flat_reduction e
 is_flat_reduction (agg m e) = is_flat_rows e
 is_flat_reduction _ = false
 
+-- such an expression, or one reduction of it
 abbrev pub is_flat : Tree → Bool
 is_flat e = is_flat_rows e || is_flat_reduction e
 
--- the nodes of a flat expression that run a kernel
 abbrev mutual
+  -- the nodes of a flat expression that run a kernel
   pub ticks_of : Tree → ℕ
   ticks_of (alias e n) = ticks_of e
   ticks_of (binary l op r) = ticks_of l + ticks_of r + 1
@@ -51,6 +53,7 @@ abbrev mutual
   ticks_of (agg m e) = ticks_of e + 1
   ticks_of _ = 0
 
+  -- the nodes of some flat expressions that run a kernel
   pub all_ticks_of : Trees → ℕ
   all_ticks_of no_trees = 0
   all_ticks_of (one_tree t ts) = ticks_of t + all_ticks_of ts
@@ -59,10 +62,12 @@ abbrev mutual
 abbrev pub group_cost : Tree → ℕ → ℕ
 group_cost e n = if is_flat e then nodes_of e else nodes_of e * (n + 1)
 
+-- each of some expressions is flat
 abbrev pub are_flat : Trees → Bool
 are_flat no_trees = true
 are_flat (one_tree t ts) = is_flat t && are_flat ts
 
+-- an order is by a flat expression, or there is none
 abbrev pub is_flat_order : Order → Bool
 is_flat_order no_order = true
 is_flat_order (ordered t options) = is_flat t
@@ -90,6 +95,7 @@ pub record WindowKey : Type 0 where
   pub keys : List Series
   pub order : Option (Series × SortOptions)
 
+-- a window's key, none where its columns or its order are refused
 abbrev pub key_where : Result (List Series) PxError → Result (Option (Series × SortOptions)) PxError → List WindowKey
 key_where (Ok by) (Ok o) = record { keys = by; order = o } ∷ []
 key_where _ _ = []
@@ -99,8 +105,8 @@ abbrev pub key_with : Option (List NamedCell) → Option OrderCell → ℕ → L
 key_with (Some keys) (Some order) n = key_where (spread_all n keys) (order_column n order)
 key_with _ _ n = []
 
--- the keys of the windows in an expression. A window's function holds none, since no window stands on groups
 abbrev mutual
+  -- the keys of the windows in an expression. A window's function holds none, since no window stands on groups
   pub keys_on : Tree → Frame → List WindowKey
   keys_on (alias e n) frame = keys_on e frame
   keys_on (binary l op r) frame = keys_on l frame ++ keys_on r frame
@@ -117,10 +123,12 @@ abbrev mutual
       all_keys_on keys frame ++ order_keys_on order frame ++ key_with (named_on keys frame) (order_on order frame) (height frame)
   keys_on _ frame = []
 
+  -- the keys of the windows in some expressions
   pub all_keys_on : Trees → Frame → List WindowKey
   all_keys_on no_trees frame = []
   all_keys_on (one_tree t ts) frame = keys_on t frame ++ all_keys_on ts frame
 
+  -- the keys of the windows in what an order is by
   pub order_keys_on : Order → Frame → List WindowKey
   order_keys_on no_order frame = []
   order_keys_on (ordered t options) frame = keys_on t frame

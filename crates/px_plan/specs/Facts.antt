@@ -28,21 +28,27 @@ pub record Facts : Type 0 where
   pub literal : Bool
   pub implode : Bool
 
+-- the types of the inputs
 abbrev pub kinds_of : List Facts → List Kind
 kinds_of inputs = map (λ a. a.kind) inputs
 
+-- one of the inputs has a List type
 abbrev pub have_list : List Facts → Bool
 have_list inputs = list_any is_list_kind (kinds_of inputs)
 
+-- each input is a unit
 abbrev pub all_units : List Facts → Bool
 all_units inputs = list_all (λ a. a.unit) inputs
 
+-- each leaf of the inputs is a literal
 abbrev pub all_literals : List Facts → Bool
 all_literals inputs = list_all (λ a. a.literal) inputs
 
+-- an Implode stands in one of the inputs
 abbrev pub any_implode : List Facts → Bool
 any_implode inputs = list_any (λ a. a.implode) inputs
 
+-- the place is on groups
 abbrev pub is_on_groups : Context → Bool
 is_on_groups Default = false
 is_on_groups Aggregation = true
@@ -51,23 +57,28 @@ is_on_groups Aggregation = true
 abbrev pub is_scalar : Context → Facts → Bool
 is_scalar place a = is_on_groups place && (a.unit && not a.literal)
 
+-- what is found of a column: the type of its name, or that there is no such name
 abbrev pub column_facts : List ℕ → Option Kind → Result Facts PxError
 column_facts n (Some k) = Ok (record { kind = k; unit = false; literal = false; implode = false })
 column_facts n None = Err (ColumnNotFound n)
 
+-- a literal whose type it may have: a range is of one of three types
 abbrev pub is_typed_literal : Literal → Bool
 is_typed_literal (range low high k) = is_range_kind k
 is_typed_literal _ = true
 
+-- what is found of a literal
 abbrev pub literal_facts : Literal → Result Facts PxError
 literal_facts v =
     if is_typed_literal v then Ok (record { kind = literal_kind v; unit = is_single v; literal = true; implode = false })
     else Err (InvalidOperation RangeType)
 
+-- what is found of an operator on two inputs
 abbrev pub binary_facts : Operator → Facts → Facts → Result Facts PxError
 binary_facts op a b = operator_kind op a.kind b.kind >>= λ k.
     Ok (record { kind = k; unit = a.unit && b.unit; literal = a.literal && b.literal; implode = a.implode || b.implode })
 
+-- what is found of a choice: its predicate is Boolean, and both inputs have one type
 abbrev pub ternary_facts : Facts → Facts → Facts → Result Facts PxError
 ternary_facts p a b =
     if is_boolean_kind p.kind then
@@ -76,6 +87,7 @@ ternary_facts p a b =
     else Err (InvalidOperation Types))
     else Err SchemaMismatch
 
+-- what is found of a cast to a type
 abbrev pub cast_facts : Facts → Kind → Result Facts PxError
 cast_facts a to =
     if is_cast a.kind to then Ok (record { kind = to; unit = a.unit; literal = a.literal; implode = a.implode })
@@ -90,6 +102,7 @@ takes_rows NullCount = true
 takes_rows Explode = true
 takes_rows _ = false
 
+-- the function that counts nulls
 abbrev pub is_null_count : FunctionExpr → Bool
 is_null_count NullCount = true
 is_null_count _ = false
@@ -102,6 +115,7 @@ is_unit_of_one Not unit = unit
 is_unit_of_one NullCount unit = true
 is_unit_of_one _ unit = false
 
+-- what is found of a function of one input
 abbrev pub one_input_facts : Context → FunctionExpr → Facts → Result Facts PxError
 one_input_facts place f a =
     if is_on_groups place && (is_null_count f && any_implode (a ∷ [])) then Err (InvalidOperation AggAboveImplode)
@@ -114,6 +128,7 @@ abbrev pub compared_all : List Kind → Result Kind PxError
 compared_all [] = Err (InvalidOperation Types)
 compared_all (k ∷ ks) = compared_kind k ks
 
+-- what is found of a function of n inputs that are compared with the first one
 abbrev pub compared_facts : ℕ → Bool → List Facts → Result Facts PxError
 compared_facts n unit inputs =
     if length inputs == n then
@@ -121,6 +136,7 @@ compared_facts n unit inputs =
     Ok (record { kind = k; unit = unit; literal = all_literals inputs; implode = any_implode inputs }))
     else Err (InvalidOperation Types)
 
+-- the first input is a unit
 abbrev pub is_first_unit : List Facts → Bool
 is_first_unit [] = false
 is_first_unit (a ∷ inputs) = a.unit
@@ -130,11 +146,13 @@ abbrev pub only : List Facts → Result Facts PxError
 only (a ∷ []) = Ok a
 only _ = Err (InvalidOperation Types)
 
+-- what is found of a function of some inputs
 abbrev pub function_facts : Context → FunctionExpr → List Facts → Result Facts PxError
 function_facts place (IsBetween closed) inputs = compared_facts 3 (all_units inputs) inputs
 function_facts place IsIn inputs = compared_facts 2 (is_first_unit inputs) inputs
 function_facts place f inputs = only inputs >>= λ a. one_input_facts place f a
 
+-- what is found of a filter by a mask
 abbrev pub filter_facts : Context → Facts → Facts → Result Facts PxError
 filter_facts place a by =
     if is_scalar place a then Err (InvalidOperation ScalarOnGroups)
@@ -142,6 +160,7 @@ filter_facts place a by =
     Ok (record { kind = a.kind; unit = false; literal = a.literal && by.literal; implode = a.implode || by.implode })
     else Err SchemaMismatch)
 
+-- what is found of a slice by an offset and a length
 abbrev pub slice_facts : Context → Facts → Facts → Facts → Result Facts PxError
 slice_facts place a o l =
     if is_on_groups place && (a.implode || (o.implode || l.implode)) then Err (InvalidOperation AggAboveImplode)
@@ -150,6 +169,7 @@ slice_facts place a o l =
     Ok (record { kind = a.kind; unit = false; literal = a.literal && (o.literal && l.literal); implode = a.implode || (o.implode || l.implode) })
     else Err (InvalidOperation Types)))
 
+-- what is found of a gather by indices, or by one index
 abbrev pub gather_facts : Context → Facts → Facts → Bool → Result Facts PxError
 gather_facts place a idx one =
     if is_scalar place a then Err (InvalidOperation ScalarOnGroups)
@@ -158,18 +178,21 @@ gather_facts place a idx one =
     else Ok (record { kind = a.kind; unit = one; literal = a.literal && idx.literal; implode = a.implode || idx.implode }))
     else Err (InvalidOperation Types))
 
+-- what is found of a sort
 abbrev pub sort_facts : Context → Facts → Result Facts PxError
 sort_facts place a =
     if is_scalar place a then Err (InvalidOperation ScalarOnGroups)
     else (if is_list_kind a.kind then Err (InvalidOperation ListKey)
     else Ok (record { kind = a.kind; unit = false; literal = a.literal; implode = a.implode }))
 
+-- what is found of a sort by keys
 abbrev pub sort_by_facts : Context → Facts → List Facts → Result Facts PxError
 sort_by_facts place a keys =
     if is_scalar place a then Err (InvalidOperation ScalarOnGroups)
     else (if have_list keys then Err (InvalidOperation ListKey)
     else Ok (record { kind = a.kind; unit = false; literal = a.literal && all_literals keys; implode = a.implode || any_implode keys }))
 
+-- what is found of a reduction
 abbrev pub agg_facts : Context → GroupByMethod → Facts → Result Facts PxError
 agg_facts place m a =
     if is_on_groups place && a.implode then Err (InvalidOperation AggAboveImplode)
@@ -178,21 +201,26 @@ agg_facts place m a =
     else reduced_kind m a.kind >>= λ k.
     Ok (record { kind = k; unit = not (is_implode m); literal = a.literal; implode = is_implode m || a.implode })))
 
+-- what is found of a length: a UInt32, one value
 abbrev pub len_facts : Facts
 len_facts = record { kind = uint32s; unit = true; literal = false; implode = false }
 
+-- an order by values of a List type
 abbrev pub is_list_order : Option Facts → Bool
 is_list_order None = false
 is_list_order (Some a) = is_list_kind a.kind
 
+-- each leaf of what an order is by is a literal, or there is no order
 abbrev pub is_literal_key : Option Facts → Bool
 is_literal_key None = true
 is_literal_key (Some a) = a.literal
 
+-- an Implode stands in what an order is by
 abbrev pub is_implode_key : Option Facts → Bool
 is_implode_key None = false
 is_implode_key (Some a) = a.implode
 
+-- what is found of a window of a function by keys in an order
 abbrev pub window_facts : Context → WindowMapping → Facts → List Facts → Option Facts → Result Facts PxError
 window_facts place mapping f keys order =
     if is_on_groups place then Err (InvalidOperation WindowOnGroups)
@@ -205,8 +233,8 @@ window_facts place mapping f keys order =
       implode = f.implode || (any_implode keys || is_implode_key order);
     })))
 
--- the facts of an expression, or the first refusal: inputs from left to right, and then its own
 abbrev mutual
+  -- the facts of an expression, or the first refusal: inputs from left to right, and then its own
   pub facts_in : Tree → Scope → Context → Result Facts PxError
   facts_in (column n) scope place = column_facts n (kind_of_name n scope)
   facts_in (literal v) scope place = literal_facts v
@@ -256,6 +284,7 @@ abbrev mutual
     o ← order_facts_in order scope Default
     window_facts place mapping a bs o
 
+  -- the facts of some expressions, or the first refusal
   pub all_facts_in : Trees → Scope → Context → Result (List Facts) PxError
   all_facts_in no_trees scope place = Ok []
   all_facts_in (one_tree t ts) scope place = do
@@ -263,6 +292,7 @@ abbrev mutual
     inputs ← all_facts_in ts scope place
     Ok (a ∷ inputs)
 
+  -- the facts of what an order is by, if anything, or its first refusal
   pub order_facts_in : Order → Scope → Context → Result (Option Facts) PxError
   order_facts_in no_order scope place = Ok None
   order_facts_in (ordered t options) scope place = do
@@ -274,6 +304,7 @@ abbrev pub followed_by : List Facts → Result (List Facts) PxError → Result (
 followed_by inputs (Ok others) = Ok (inputs ++ others)
 followed_by inputs (Err e) = Err e
 
+-- the type that is found, or the refusal
 abbrev pub kind_found : Result Facts PxError → Result Kind PxError
 kind_found (Ok a) = Ok a.kind
 kind_found (Err e) = Err e

@@ -28,6 +28,7 @@ use Rattle.px_plan.specs.Tree.{Literal, single, range, series}
 use Rattle.px_plan.specs.declared.function.FunctionExpr.{FunctionExpr}
 use Rattle.px_plan.specs.declared.function.FunctionExpr.TheVariants.{IsNull, IsNotNull, Not, IsBetween, IsIn, Reverse, Shift, DropNulls, NullCount, Explode}
 
+-- a place holds true; a null does not
 abbrev pub is_true : Slot → Bool
 is_true (Some (boolean b)) = b
 is_true _ = false
@@ -78,6 +79,7 @@ literal_cell (range low high k) =
     if fits k (integer low) && fits k (integer high) then Ok (rows (integers low high)) else Err (ComputeError RangeBound)
 literal_cell (series s) = Ok (rows s.slots)
 
+-- an operator on two cells row by row
 abbrev pub binary_cell : Kind → Operator → Cell → Cell → Result Cell PxError
 binary_cell k op a b = zip_cells (operated k op) a b
 
@@ -86,6 +88,7 @@ abbrev pub chosen : Slot → Slot → Slot → Slot
 chosen (Some (boolean true)) a b = a
 chosen p a b = b
 
+-- row by row one value or the other, as the predicate says
 abbrev pub ternary_cell : Cell → Cell → Cell → Result Cell PxError
 ternary_cell p a b = zip_three_cells chosen p a b
 
@@ -160,10 +163,12 @@ is_index n (Some (integer (negsuc i))) = nat_lt i n
 is_index n None = true
 is_index n _ = false
 
+-- the row that an index names, a null for a null
 abbrev pub indexed : List Slot → Slot → Slot
 indexed xs (Some (integer z)) = slot_at xs (row_of_index (length xs) z)
 indexed xs _ = None
 
+-- one value, a null
 abbrev pub is_null_unit : Cell → Bool
 is_null_unit (unit None) = true
 is_null_unit _ = false
@@ -176,6 +181,7 @@ gather_cell one idx_is_literal c idx =
     else if list_all (is_index (length (list_of c))) (list_of idx) then Ok (cell_of one (map (indexed (list_of c)) (list_of idx)))
     else Err OutOfBounds
 
+-- the rows in sorted order, equal rows as they stand
 abbrev pub sort_cell : SortOptions → Cell → Result Cell PxError
 sort_cell options c = Ok (rows (slots_at (list_of c) (sorted_rows ((options, list_of c) ∷ []) (length (list_of c)))))
 

@@ -2,8 +2,8 @@
 use Rattle.std.specs.Prelude.{ℕ, ◌+◌, List, [], ◌∷◌, ◌++◌}
 use Rattle.px_plan.specs.Tree.{Tree, Trees, Order, no_trees, one_tree, no_order, ordered, column, literal, alias, binary, ternary, cast, function, filter, slice, gather, sort, sort_by, agg, len, window}
 
--- how many nodes a tree has
 abbrev mutual
+  -- how many nodes a tree has
   pub nodes_of : Tree → ℕ
   nodes_of (column n) = 1
   nodes_of (literal v) = 1
@@ -21,16 +21,18 @@ abbrev mutual
   nodes_of len = 1
   nodes_of (window f keys order mapping) = nodes_of f + all_nodes_of keys + order_nodes_of order + 1
 
+  -- how many nodes some trees have together
   pub all_nodes_of : Trees → ℕ
   all_nodes_of no_trees = 0
   all_nodes_of (one_tree t ts) = nodes_of t + all_nodes_of ts
 
+  -- how many nodes the tree of an order has, none without an order
   pub order_nodes_of : Order → ℕ
   order_nodes_of no_order = 0
   order_nodes_of (ordered t options) = nodes_of t
 
--- the trees of a tree's nodes, each after those of its children, and these from left to right
 abbrev mutual
+  -- the trees of a tree's nodes, each after those of its children, and these from left to right
   pub postorder : Tree → List Tree
   postorder (column n) = column n ∷ []
   postorder (literal v) = literal v ∷ []
@@ -48,10 +50,12 @@ abbrev mutual
   postorder len = len ∷ []
   postorder (window f keys order mapping) = (postorder f ++ (all_postorder keys ++ order_postorder order)) ++ window f keys order mapping ∷ []
 
+  -- those of some trees, one tree after another
   pub all_postorder : Trees → List Tree
   all_postorder no_trees = []
   all_postorder (one_tree t ts) = postorder t ++ all_postorder ts
 
+  -- those of the tree of an order, none without an order
   pub order_postorder : Order → List Tree
   order_postorder no_order = []
   order_postorder (ordered t options) = postorder t
@@ -74,8 +78,8 @@ children_postorder (agg m e) = postorder e
 children_postorder len = []
 children_postorder (window f keys order mapping) = postorder f ++ (all_postorder keys ++ order_postorder order)
 
--- the names of the columns that are a tree's leaves, from left to right, with repeats
 abbrev mutual
+  -- the names of the columns that are a tree's leaves, from left to right, with repeats
   pub leaf_names : Tree → List (List ℕ)
   leaf_names (column n) = n ∷ []
   leaf_names (literal v) = []
@@ -93,10 +97,12 @@ abbrev mutual
   leaf_names len = []
   leaf_names (window f keys order mapping) = leaf_names f ++ (all_leaf_names keys ++ order_leaf_names order)
 
+  -- those of some trees, from left to right
   pub all_leaf_names : Trees → List (List ℕ)
   all_leaf_names no_trees = []
   all_leaf_names (one_tree t ts) = leaf_names t ++ all_leaf_names ts
 
+  -- those of the tree of an order, none without an order
   pub order_leaf_names : Order → List (List ℕ)
   order_leaf_names no_order = []
   order_leaf_names (ordered t options) = leaf_names t

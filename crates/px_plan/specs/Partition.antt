@@ -21,8 +21,8 @@ is_row_function Not = true
 is_row_function (IsBetween closed) = true
 is_row_function _ = false
 
--- each row of the result comes from that row alone
 abbrev mutual
+  -- each row of the result comes from that row alone
   pub is_elementwise : Tree → Scope → Bool
   is_elementwise (column n) scope = is_some (kind_of_name n scope)
   is_elementwise (literal v) scope = is_single v
@@ -33,6 +33,7 @@ abbrev mutual
   is_elementwise (function es f) scope = is_row_function f && are_elementwise es scope
   is_elementwise _ scope = false
 
+  -- each of some expressions is elementwise
   pub are_elementwise : Trees → Scope → Bool
   are_elementwise no_trees scope = true
   are_elementwise (one_tree t ts) scope = is_elementwise t scope && are_elementwise ts scope

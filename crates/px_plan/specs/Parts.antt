@@ -8,9 +8,11 @@ use Rattle.px_plan.specs.View.{tree, agg_step, tree_step, trees_step}
 use Rattle.px_plan.specs.declared.expr.AggExpr.{AggExpr, fold-AggExpr}
 use Rattle.px_plan.specs.declared.expr.Expr.{Expr}
 
+-- the tree of a reduction
 abbrev pub agg_of : AggExpr → Tree
 agg_of = fold-AggExpr Tree Tree Trees agg_step tree_step trees_step
 
+-- what the rows of a part are ordered by
 abbrev pub order_of : Option (Box Expr Global × SortOptions) → Order
 order_of None = no_order
 order_of (Some o) = ordered (tree o.0.value) o.1

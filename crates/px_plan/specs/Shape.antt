@@ -5,16 +5,18 @@ use Rattle.px_column.specs.declared.method.GroupByMethod.{GroupByMethod}
 use Rattle.px_column.specs.declared.method.GroupByMethod.TheVariants.{Implode}
 use Rattle.px_plan.specs.declared.function.FunctionExpr.TheVariants.{IsNull, IsNotNull, Not, IsBetween, IsIn, NullCount}
 
+-- a literal of one value
 abbrev pub is_single : Literal → Bool
 is_single (single k s) = true
 is_single _ = false
 
+-- the reduction to a list of all rows
 abbrev pub is_implode : GroupByMethod → Bool
 is_implode Implode = true
 is_implode _ = false
 
--- whether an expression has one value, a unit, whatever the frame; else it has a list of rows
 abbrev mutual
+  -- whether an expression has one value, a unit, whatever the frame; else it has a list of rows
   pub is_unit : Tree → Bool
   is_unit (column n) = false
   is_unit (literal v) = is_single v
@@ -39,16 +41,18 @@ abbrev mutual
   is_unit len = true
   is_unit (window f keys order mapping) = false
 
+  -- whether the first of some expressions has one value
   pub is_unit_first : Trees → Bool
   is_unit_first no_trees = false
   is_unit_first (one_tree t ts) = is_unit t
 
+  -- whether each of some expressions has one value
   pub are_units : Trees → Bool
   are_units no_trees = true
   are_units (one_tree t ts) = is_unit t && are_units ts
 
--- whether each leaf of an expression is a literal; the length is a leaf and no literal
 abbrev mutual
+  -- whether each leaf of an expression is a literal; the length is a leaf and no literal
   pub is_literal_tree : Tree → Bool
   is_literal_tree (column n) = false
   is_literal_tree (literal v) = true
@@ -66,16 +70,18 @@ abbrev mutual
   is_literal_tree len = false
   is_literal_tree (window f keys order mapping) = is_literal_tree f && (are_literal_trees keys && is_literal_order order)
 
+  -- whether each leaf of some expressions is a literal
   pub are_literal_trees : Trees → Bool
   are_literal_trees no_trees = true
   are_literal_trees (one_tree t ts) = is_literal_tree t && are_literal_trees ts
 
+  -- whether each leaf of what an order is by is a literal, as it is without an order
   pub is_literal_order : Order → Bool
   is_literal_order no_order = true
   is_literal_order (ordered t options) = is_literal_tree t
 
--- whether an Implode stands in an expression
 abbrev mutual
+  -- whether an Implode stands in an expression
   pub has_implode : Tree → Bool
   has_implode (column n) = false
   has_implode (literal v) = false
@@ -93,10 +99,12 @@ abbrev mutual
   has_implode len = false
   has_implode (window f keys order mapping) = has_implode f || (have_implode keys || has_implode_order order)
 
+  -- whether an Implode stands in one of some expressions
   pub have_implode : Trees → Bool
   have_implode no_trees = false
   have_implode (one_tree t ts) = has_implode t || have_implode ts
 
+  -- whether an Implode stands in what an order is by
   pub has_implode_order : Order → Bool
   has_implode_order no_order = false
   has_implode_order (ordered t options) = has_implode t
@@ -107,9 +115,9 @@ literal_name (single k s) = codes "literal"
 literal_name (range low high k) = codes "literal"
 literal_name (series s) = s.name
 
--- the name of an expression's result: a column's own, an alias, the length's, else that of the left operand, the truthy
--- one, a window's function, or the first input
 abbrev mutual
+  -- the name of an expression's result: a column's own, an alias, the length's, else that of the left operand, the truthy
+  -- one, a window's function, or the first input
   pub name_of : Tree → List ℕ
   name_of (column n) = n
   name_of (literal v) = literal_name v
@@ -127,6 +135,7 @@ abbrev mutual
   name_of len = codes "len"
   name_of (window f keys order mapping) = name_of f
 
+  -- the name of the first of some expressions, empty where there is none
   pub first_name : Trees → List ℕ
   first_name no_trees = []
   first_name (one_tree t ts) = name_of t

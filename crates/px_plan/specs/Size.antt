@@ -15,8 +15,8 @@ count_on e frame = option_map_or count_of (value_on e frame) 0
 abbrev pub counts_on : Tree → List Frame → ℕ
 counts_on e frames = sum (map (count_on e) frames)
 
--- the greatest such number of an expression and those in it; a window's function is measured over the parts
 abbrev mutual
+  -- the greatest such number of an expression and those in it; a window's function is measured over the parts
   pub size_on : Tree → List Frame → ℕ
   size_on (column n) frames = counts_on (column n) frames
   size_on (literal v) frames = counts_on (literal v) frames
@@ -36,10 +36,12 @@ abbrev mutual
       max (counts_on (window f keys order mapping) frames)
       (max (size_on f (flat_map (part_frames keys order) frames)) (max (sizes_on keys frames) (order_size_on order frames)))
 
+  -- the greatest such number of some expressions
   pub sizes_on : Trees → List Frame → ℕ
   sizes_on no_trees frames = 0
   sizes_on (one_tree t ts) frames = max (size_on t frames) (sizes_on ts frames)
 
+  -- the greatest such number of what an order is by, 0 without an order
   pub order_size_on : Order → List Frame → ℕ
   order_size_on no_order frames = 0
   order_size_on (ordered t options) frames = size_on t frames

@@ -23,21 +23,25 @@ use Rattle.px_plan.specs.declared.function.FunctionExpr.{FunctionExpr}
 use Rattle.px_plan.specs.declared.window.WindowMapping.{WindowMapping}
 use Rattle.px_plan.specs.Tree.{Tree, Trees, Order, Literal, single, range, series, no_trees, one_tree, no_order, ordered, column, literal, alias, binary, ternary, cast, function, filter, slice, gather, sort, sort_by, agg, len, window}
 
+-- a literal taken apart: a type and a place, the bounds and the type of a range, or a column
 abbrev literal_parts : Literal → (Kind × Slot) ⊎ ((ℤ × (ℤ × Kind)) ⊎ Series)
 literal_parts (single k s) = inl (k, s)
 literal_parts (range low high k) = inr (inl (low, (high, k)))
 literal_parts (series s) = inr (inr s)
 
+-- the literal of these parts
 abbrev literal_back : (Kind × Slot) ⊎ ((ℤ × (ℤ × Kind)) ⊎ Series) → Literal
 literal_back (inl p) = single p.0 p.1
 literal_back (inr (inl p)) = range p.0 p.1.0 p.1.1
 literal_back (inr (inr s)) = series s
 
+-- a literal, taken apart and put together, is the same literal
 pub literal_round : (v : Literal) → literal_back (literal_parts v) ≡ v
 literal_round (single k s) = refl
 literal_round (range low high k) = refl
 literal_round (series s) = refl
 
+-- literals are told apart by their parts
 abbrev pub coded_literal : Coded Literal
 coded_literal =
     code_by ((Kind × Slot) ⊎ ((ℤ × (ℤ × Kind)) ⊎ Series))
@@ -60,9 +64,11 @@ pub data Token : Type 0 where
   at_agg : GroupByMethod → Token
   at_window : WindowMapping → Token
 
+-- what a token holds, by its kind
 abbrev Parts : Type 0
 Parts = (List ℕ) ⊎ (Literal ⊎ ((List ℕ) ⊎ (Operator ⊎ (ℕ ⊎ ((Kind × CastOptions) ⊎ (FunctionExpr ⊎ (Bool ⊎ (SortOptions ⊎ (SortOptions ⊎ (SortMultipleOptions ⊎ (GroupByMethod ⊎ WindowMapping)))))))))))
 
+-- a token taken apart
 abbrev token_parts : Token → Parts
 token_parts (at_column x) = inl x
 token_parts (at_literal x) = inr (inl x)
@@ -78,6 +84,7 @@ token_parts (at_sort_by x) = inr (inr (inr (inr (inr (inr (inr (inr (inr (inr (i
 token_parts (at_agg x) = inr (inr (inr (inr (inr (inr (inr (inr (inr (inr (inr (inl x)))))))))))
 token_parts (at_window x) = inr (inr (inr (inr (inr (inr (inr (inr (inr (inr (inr (inr x)))))))))))
 
+-- the token of these parts
 abbrev token_back : Parts → Token
 token_back (inl x) = at_column x
 token_back (inr (inl x)) = at_literal x
@@ -93,6 +100,7 @@ token_back (inr (inr (inr (inr (inr (inr (inr (inr (inr (inr (inl x))))))))))) =
 token_back (inr (inr (inr (inr (inr (inr (inr (inr (inr (inr (inr (inl x)))))))))))) = at_agg x
 token_back (inr (inr (inr (inr (inr (inr (inr (inr (inr (inr (inr (inr x)))))))))))) = at_window x
 
+-- a token, taken apart and put together, is the same token
 pub token_round : (x : Token) → token_back (token_parts x) ≡ x
 token_round (at_column x) = refl
 token_round (at_literal x) = refl
@@ -108,14 +116,16 @@ token_round (at_sort_by x) = refl
 token_round (at_agg x) = refl
 token_round (at_window x) = refl
 
+-- the parts of tokens are told apart, each as what it is
 abbrev coded_parts : Coded Parts
 coded_parts = coded⊎ (coded_list coded_ℕ) (coded⊎ coded_literal (coded⊎ (coded_list coded_ℕ) (coded⊎ operator.the_row.coded (coded⊎ coded_ℕ (coded⊎ (coded× coded_kind cast_options.the_row.coded) (coded⊎ function_expr.the_row.coded (coded⊎ coded_bool (coded⊎ sort_options.the_row.coded (coded⊎ sort_options.the_row.coded (coded⊎ sort_multiple_options.the_row.coded (coded⊎ method.the_row.coded window_mapping.the_row.coded)))))))))))
 
+-- tokens are told apart by their parts
 abbrev coded_token : Coded Token
 coded_token = code_by Parts coded_parts token_parts token_back token_round
 
--- a tree's nodes before others
 abbrev mutual
+  -- a tree's nodes before others
   tokens : Tree → List Token → List Token
   tokens (column n) rest = at_column n ∷ rest
   tokens (literal v) rest = at_literal v ∷ rest
@@ -133,10 +143,12 @@ abbrev mutual
   tokens len rest = at_plain 3 ∷ rest
   tokens (window f keys order mapping) rest = tokens f (all_tokens keys (order_tokens order (at_window mapping ∷ rest)))
 
+  -- the nodes of a list of trees before others, with a mark for each tree
   all_tokens : Trees → List Token → List Token
   all_tokens no_trees rest = at_plain 4 ∷ rest
   all_tokens (one_tree t ts) rest = tokens t (all_tokens ts (at_plain 5 ∷ rest))
 
+  -- the nodes of what an order is by before others, or a mark for no order
   order_tokens : Order → List Token → List Token
   order_tokens no_order rest = at_plain 6 ∷ rest
   order_tokens (ordered t options) rest = tokens t (at_order options ∷ rest)
@@ -147,9 +159,11 @@ pub record Stack : Type 0 where
   pub lists : List Trees
   pub orders : List Order
 
+-- a stack of these trees, lists and orders
 abbrev stack : List Tree → List Trees → List Order → Stack
 stack ts us os = record { trees = ts; lists = us; orders = os }
 
+-- what a plain token makes of a stack
 abbrev plain_step : ℕ → List Tree → List Trees → List Order → Stack
 plain_step zero (c ∷ b ∷ a ∷ ts) us os = stack (ternary a b c ∷ ts) us os
 plain_step (suc zero) (b ∷ a ∷ ts) us os = stack (filter a b ∷ ts) us os
@@ -159,6 +173,7 @@ plain_step (suc (suc (suc (suc zero)))) ts us os = stack ts (no_trees ∷ us) os
 plain_step (suc (suc (suc (suc (suc zero))))) (t ∷ ts) (u ∷ us) os = stack ts (one_tree t u ∷ us) os
 plain_step _ ts us os = stack ts us (no_order ∷ os)
 
+-- what a token makes of a stack: it takes its children off, and puts its tree on
 abbrev token_step : Token → List Tree → List Trees → List Order → Stack
 token_step (at_column n) ts us os = stack (column n ∷ ts) us os
 token_step (at_literal v) ts us os = stack (literal v ∷ ts) us os
@@ -175,11 +190,13 @@ token_step (at_agg m) (e ∷ ts) us os = stack (agg m e ∷ ts) us os
 token_step (at_window mapping) (f ∷ ts) (u ∷ us) (o ∷ os) = stack (window f u o mapping ∷ ts) us os
 token_step _ ts us os = stack ts us os
 
+-- what tokens, one after another, make of a stack
 abbrev run : List Token → Stack → Stack
 run [] s = s
 run (x ∷ xs) s = run xs (token_step x s.trees s.lists s.orders)
 
 mutual
+  -- the tokens of a tree put that tree on the stack
   run-tokens : (t : Tree) (rest : List Token) (ts : List Tree) (us : List Trees) (os : List Order) → run (tokens t rest) (stack ts us os) ≡ run rest (stack (t ∷ ts) us os)
   run-tokens (column n) rest ts us os = refl
   run-tokens (literal v) rest ts us os = refl
@@ -211,27 +228,34 @@ mutual
       ∙ run-all_tokens keys (order_tokens order (at_window mapping ∷ rest)) (f ∷ ts) us os
       ∙ run-order_tokens order (at_window mapping ∷ rest) (f ∷ ts) (keys ∷ us) os
 
+  -- the tokens of a list of trees put that list on the stack
   run-all_tokens : (es : Trees) (rest : List Token) (ts : List Tree) (us : List Trees) (os : List Order) → run (all_tokens es rest) (stack ts us os) ≡ run rest (stack ts (es ∷ us) os)
   run-all_tokens no_trees rest ts us os = refl
   run-all_tokens (one_tree t es) rest ts us os =
       run-tokens t (all_tokens es (at_plain 5 ∷ rest)) ts us os ∙ run-all_tokens es (at_plain 5 ∷ rest) (t ∷ ts) us os
 
+  -- the tokens of an order put that order on the stack
   run-order_tokens : (o : Order) (rest : List Token) (ts : List Tree) (us : List Trees) (os : List Order) → run (order_tokens o rest) (stack ts us os) ≡ run rest (stack ts us (o ∷ os))
   run-order_tokens no_order rest ts us os = refl
   run-order_tokens (ordered t options) rest ts us os = run-tokens t (at_order options ∷ rest) ts us os
 
+-- the tree on top of a stack
 abbrev top : List Tree → Tree
 top [] = len
 top (t ∷ ts) = t
 
+-- the tokens of a tree
 abbrev tree_tokens : Tree → List Token
 tree_tokens t = tokens t []
 
+-- the tree that tokens make
 abbrev tree_back : List Token → Tree
 tree_back xs = top (run xs (stack [] [] [])).trees
 
+-- the tree that a tree's tokens make is that tree
 pub tree_round : (t : Tree) → tree_back (tree_tokens t) ≡ t
 tree_round t = ap (λ (s : Stack). top s.trees) (run-tokens t [] [] [] [])
 
+-- trees are told apart by their tokens
 abbrev pub coded_tree : Coded Tree
 coded_tree = code_by (List Token) (coded_list coded_token) tree_tokens tree_back tree_round

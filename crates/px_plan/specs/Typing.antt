@@ -37,12 +37,14 @@ literal_kind (single k s) = k
 literal_kind (range low high k) = k
 literal_kind (series s) = s.kind
 
+-- a type that a range may have
 abbrev pub is_range_kind : Kind → Bool
 is_range_kind int32s = true
 is_range_kind int64s = true
 is_range_kind uint32s = true
 is_range_kind _ = false
 
+-- a type of integers, or the type of nulls
 abbrev pub is_integer_or_null : Kind → Bool
 is_integer_or_null nulls = true
 is_integer_or_null k = is_integer_kind k
@@ -75,12 +77,13 @@ abbrev pub window_kind : WindowMapping → Bool → Kind → Kind
 window_kind Join false k = lists k
 window_kind _ _ k = k
 
+-- the type, where nothing is refused
 abbrev pub made_kind : Result Kind PxError → Option Kind
 made_kind (Ok k) = Some k
 made_kind (Err e) = None
 
--- the type of an expression's values
 abbrev mutual
+  -- the type of an expression's values
   pub kind_in : Tree → Scope → Option Kind
   kind_in (column n) scope = kind_of_name n scope
   kind_in (literal v) scope = Some (literal_kind v)
@@ -101,6 +104,7 @@ abbrev mutual
   kind_in len scope = Some uint32s
   kind_in (window f keys order mapping) scope = option_map (window_kind mapping (is_unit f)) (kind_in f scope)
 
+  -- the types of some expressions, where each has one
   pub kinds_in : Trees → Scope → Option (List Kind)
   kinds_in no_trees scope = Some []
   kinds_in (one_tree t ts) scope = do
@@ -128,19 +132,22 @@ abbrev pub fails : (Kind → Bool) → Option Kind → Bool
 fails test None = false
 fails test (Some k) = not (test k)
 
--- what is refused of the types of two inputs, and of several
+-- what is refused of the types of two inputs
 abbrev pub refusal_of_two : (Kind → Kind → Result Kind PxError) → Option Kind → Option Kind → List PxError
 refusal_of_two typed (Some a) (Some b) = refusal_of (typed a b)
 refusal_of_two typed _ _ = []
 
+-- what is refused of the type of one input
 abbrev pub refusal_of_one : (Kind → Result Kind PxError) → Option Kind → List PxError
 refusal_of_one typed (Some a) = refusal_of (typed a)
 refusal_of_one typed None = []
 
+-- what is refused of the types of all inputs
 abbrev pub refusal_of_all : (List Kind → Result Kind PxError) → Option (List Kind) → List PxError
 refusal_of_all typed (Some ks) = refusal_of (typed ks)
 refusal_of_all typed None = []
 
+-- one of the types is a List type
 abbrev pub has_list_kind : Option (List Kind) → Bool
 has_list_kind (Some ks) = list_any is_list_kind ks
 has_list_kind None = false
@@ -149,6 +156,7 @@ has_list_kind None = false
 abbrev pub scalar_refusal : Tree → List PxError
 scalar_refusal e = refused_where (is_unit e && not (is_literal_tree e)) (InvalidOperation ScalarOnGroups)
 
+-- the refusal of an Implode, where there is one
 abbrev pub implode_refusal : Bool → List PxError
 implode_refusal implode = refused_where implode (InvalidOperation AggAboveImplode)
 
@@ -159,6 +167,7 @@ grouped_reduction_refusals m e =
     ++ refused_where (is_literal_tree e) (ComputeError AggLiteral)
     ++ refused_where (is_unit e && not (is_implode m)) (ComputeError AggScalar)
 
+-- the same of the first of some inputs
 abbrev pub first_scalar_refusal : Trees → List PxError
 first_scalar_refusal no_trees = []
 first_scalar_refusal (one_tree t ts) = scalar_refusal t
@@ -179,14 +188,17 @@ is_one_input_missing IsIn es = false
 is_one_input_missing f (one_tree t no_trees) = false
 is_one_input_missing f _ = true
 
+-- the refusal of no key
 abbrev pub no_key_refusal : Trees → List PxError
 no_key_refusal no_trees = ComputeError NoKey ∷ []
 no_key_refusal (one_tree t ts) = []
 
+-- the type of what an order is by
 abbrev pub order_kind : Order → Scope → Option Kind
 order_kind no_order scope = None
 order_kind (ordered t options) scope = kind_in t scope
 
+-- a type that is no List type
 abbrev pub not_list : Kind → Bool
 not_list k = not (is_list_kind k)
 
@@ -236,8 +248,8 @@ or_first (e ∷ es) own = e ∷ es
 or_first [] [] = []
 or_first [] (e ∷ es) = e ∷ []
 
--- why an expression is refused over these names and types, in this place
 abbrev mutual
+  -- why an expression is refused over these names and types, in this place
   pub refusals_of : Tree → Scope → Context → List PxError
   refusals_of (column n) scope place = own_refusals (column n) scope place
   refusals_of (literal v) scope place = own_refusals (literal v) scope place
@@ -266,10 +278,12 @@ abbrev mutual
   refusals_of (window f keys order mapping) scope place =
       or_first (refusals_of f scope Aggregation ++ all_refusals_of keys scope Default ++ order_refusals_of order scope Default) (own_refusals (window f keys order mapping) scope place)
 
+  -- why some expressions are refused, from left to right
   pub all_refusals_of : Trees → Scope → Context → List PxError
   all_refusals_of no_trees scope place = []
   all_refusals_of (one_tree t ts) scope place = refusals_of t scope place ++ all_refusals_of ts scope place
 
+  -- why what an order is by is refused
   pub order_refusals_of : Order → Scope → Context → List PxError
   order_refusals_of no_order scope place = []
   order_refusals_of (ordered t options) scope place = refusals_of t scope place

@@ -44,8 +44,8 @@ abbrev pub whole_window : WindowMapping → Frame → Result (List (List ℕ)) P
 whole_window mapping frame (Err e) cells = Some (Err e)
 whole_window mapping frame (Ok parts) cells = option_map (λ cs. window_cell mapping (height frame) (zip parts cs)) (cells parts)
 
--- what an expression answers on a frame where all its inputs have values: its cell, or its own fault
 abbrev mutual
+  -- what an expression answers on a frame where all its inputs have values: its cell, or its own fault
   pub outcome_on : Tree → Frame → Option (Result Cell PxError)
   outcome_on (column n) frame = option_map (λ s. Ok (rows s.slots)) (look_in n frame)
   outcome_on (literal v) frame = Some (literal_cell v)
@@ -113,6 +113,7 @@ abbrev mutual
     cs ← named_on ts frame
     Some (c ∷ cs)
 
+  -- what a window's rows are ordered by, under its name and type, where it has a value
   pub order_on : Order → Frame → Option OrderCell
   order_on no_order frame = Some None
   order_on (ordered t options) frame = option_map (λ c. Some (c, options)) (made (outcome_on t frame) >>= named t frame)
@@ -121,6 +122,7 @@ abbrev mutual
 abbrev pub value_on : Tree → Frame → Option Cell
 value_on e frame = made (outcome_on e frame)
 
+-- the fault in an answer, if it is one
 abbrev pub fault_in : Option (Result Cell PxError) → List PxError
 fault_in (Some (Err e)) = e ∷ []
 fault_in _ = []
@@ -138,9 +140,9 @@ parts_on keys order frame = parts_in (window_parts (named_on keys frame) (order_
 abbrev pub part_frames : Trees → Order → Frame → List Frame
 part_frames keys order frame = map (rows_of_frame frame) (parts_on keys order frame)
 
--- the faults of an expression: its inputs', and its own where all of them have values. A window's function is evaluated
--- on the frame of each part
 abbrev mutual
+  -- the faults of an expression: its inputs', and its own where all of them have values. A window's function is evaluated
+  -- on the frame of each part
   pub faults_on : Tree → Frame → List PxError
   faults_on (column n) frame = []
   faults_on (literal v) frame = fault_in (outcome_on (literal v) frame)
@@ -161,10 +163,12 @@ abbrev mutual
       ++ flat_map (λ p. faults_on f (rows_of_frame frame p)) (parts_on keys order frame)
       ++ fault_in (outcome_on (window f keys order mapping) frame)
 
+  -- the faults of some expressions, from left to right
   pub all_faults_on : Trees → Frame → List PxError
   all_faults_on no_trees frame = []
   all_faults_on (one_tree t ts) frame = faults_on t frame ++ all_faults_on ts frame
 
+  -- the faults of what an order is by
   pub order_faults_on : Order → Frame → List PxError
   order_faults_on no_order frame = []
   order_faults_on (ordered t options) frame = faults_on t frame

@@ -20,6 +20,7 @@ use Rattle.px_plan.specs.declared.window.WindowMapping.{WindowMapping}
 use Rattle.px_plan.specs.declared.window.WindowType.{WindowType}
 use Rattle.px_plan.specs.declared.window.WindowType.TheVariants.{Over}
 
+-- the literal that a `LiteralValue` stands for
 abbrev pub literal_of : LiteralValue → Literal
 literal_of (Boolean b) = single k.booleans (Some (boolean b))
 literal_of (Int8 z) = single k.int8s (Some (integer z))
@@ -36,10 +37,11 @@ literal_of Null = single k.nulls None
 literal_of (Range low high dtype) = range low high (kind_of dtype)
 literal_of (Series s) = series s
 
+-- how a window puts its cells in their places
 abbrev pub mapping_of : WindowType → WindowMapping
 mapping_of (Over m) = m
 
--- one level, with each expression inside already seen as its tree
+-- one level of a reduction, with the expression inside already seen as its tree
 abbrev pub agg_step : AggExpr-F Tree Tree Trees → Tree
 agg_step (AggExpr-F.Min e) = t.agg method.Min e.value
 agg_step (AggExpr-F.Max e) = t.agg method.Max e.value
@@ -50,10 +52,12 @@ agg_step (AggExpr-F.NUnique e) = t.agg method.NUnique e.value
 agg_step (AggExpr-F.Implode e) = t.agg method.Implode e.value
 agg_step (AggExpr-F.Count e b) = t.agg (method.Count b) e.value
 
+-- an order by an expression that is already seen as its tree, or no order
 abbrev pub order_step : Option (Box Tree Global × SortOptions) → Order
 order_step None = no_order
 order_step (Some o) = ordered o.0.value o.1
 
+-- one level of an expression, with each one inside already seen as its tree
 abbrev pub tree_step : Expr-F Tree Tree Trees → Tree
 tree_step (Expr-F.Column n) = t.column n
 tree_step (Expr-F.Literal v) = t.literal (literal_of v)
@@ -72,19 +76,22 @@ tree_step (Expr-F.Agg a) = a
 tree_step Expr-F.Len = t.len
 tree_step (Expr-F.Window f keys order options) = t.window f.value keys (order_step order) (mapping_of options)
 
+-- a list of expressions, each already seen as its tree
 abbrev pub trees_step : Exprs-F Tree Tree Trees → Trees
 trees_step es = trees_of es.items.items
 
+-- the tree that an expression stands for
 abbrev pub tree : Expr → Tree
 tree = fold-Expr Tree Tree Trees agg_step tree_step trees_step
 
+-- the tree that a reduction stands for
 abbrev pub agg_tree : AggExpr → Tree
 agg_tree = fold-AggExpr Tree Tree Trees agg_step tree_step trees_step
 
+-- the trees that a list of expressions stands for
 abbrev pub trees : Exprs → Trees
 trees = fold-Exprs Tree Tree Trees agg_step tree_step trees_step
 
--- a reduction as its tree
 -- what the rows of a part are ordered by
 abbrev pub order_tree : Option (Box Expr Global × SortOptions) → Order
 order_tree None = no_order
