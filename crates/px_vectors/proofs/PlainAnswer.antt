@@ -11,9 +11,9 @@ use Rattle.px_plan.specs.Shape.{name_of}
 use Rattle.px_steps.specs.Direct.{first_of_two, agg_refusals, aggregated_on, columns_on, key_on, key_refusals, repeat_refusal, step_on, step_refusals}
 use Rattle.px_plan.specs.Tree.{Tree, column}
 use Rattle.px_column.specs.Option.{each}
+use Rattle.px_steps.specs.Meets.{Meets}
 use Rattle.px_steps.specs.Plain.{key_values, no_key_refusal}
 use Rattle.px_steps.specs.Step.{group}
-use Rattle.px_vectors.specs.PlainStep.{Makes}
 use Rattle.px_vectors.proofs.PlainNames.{made_names, made_even}
 
 -- columns that are made of the parts
@@ -25,8 +25,8 @@ columns_made frame by front values ps aggs p f a =
 
 -- an answer tells the first name that stands twice, or the columns
 module _ (columns : List Series) where
-  told_frame : (r : Result (List Series) PxError) → Answers r (Ok columns) → Makes r (Some columns) []
-  told_frame (Ok f) h = (cc, refl)
+  told_frame : (r : Result (List Series) PxError) → Answers r (Ok columns) → Meets r [] (Some columns)
+  told_frame (Ok f) h = (refl, cc)
   told_frame (Err (ColumnNotFound n)) h = cc
   told_frame (Err (Duplicate n)) h = cc
   told_frame (Err (InvalidOperation w)) h = cc
@@ -36,7 +36,7 @@ module _ (columns : List Series) where
   told_frame (Err SchemaMismatch) h = cc
   told_frame (Err OutOfMemory) h = tt
 
-  told_repeat : (n : List ℕ) (r : Result (List Series) PxError) → Answers r (Err (Duplicate n)) → Makes r (Some columns) (Duplicate n ∷ [])
+  told_repeat : (n : List ℕ) (r : Result (List Series) PxError) → Answers r (Err (Duplicate n)) → Meets r (Duplicate n ∷ []) (Some columns)
   told_repeat n (Ok f) h = cc
   told_repeat n (Err (ColumnNotFound m)) h = cc
   told_repeat n (Err (Duplicate m)) h = let same : n ≡ m = cc in ap (λ k. Some (Duplicate k)) same
@@ -47,7 +47,7 @@ module _ (columns : List Series) where
   told_repeat n (Err SchemaMismatch) h = cc
   told_repeat n (Err OutOfMemory) h = tt
 
-  told : (repeat : Option (List ℕ)) (r : Result (List Series) PxError) → Answers r (unless_repeated repeat (Ok columns)) → Makes r (Some columns) (repeat_refusal repeat)
+  told : (repeat : Option (List ℕ)) (r : Result (List Series) PxError) → Answers r (unless_repeated repeat (Ok columns)) → Meets r (repeat_refusal repeat) (Some columns)
   told None r h = told_frame r h
   told (Some n) r h = told_repeat n r h
 
@@ -58,7 +58,7 @@ plain_columns front (Some values) columns h = (values, refl, cc)
 module _ (frame : List Series) (keys aggs : List Tree) (by columns : List Series) where
   -- a group step that no expression of its refuses
   pub step_answer : (r : Result (List Series) PxError) → Answers r (frame_of columns) → no_key_refusal keys ≡ [] → each (key_on frame) keys ≡ Some by → flat_map (key_refusals frame) keys ≡ []
-      → columns_on frame by aggs ≡ Some columns → flat_map (agg_refusals frame) aggs ≡ [] → Makes r (step_on (group keys aggs None) frame) (step_refusals (group keys aggs None) frame)
+      → columns_on frame by aggs ≡ Some columns → flat_map (agg_refusals frame) aggs ≡ [] → Meets r (step_refusals (group keys aggs None) frame) (step_on (group keys aggs None) frame)
   step_answer r answer some k kr made ar =
       let ps = parts_of by (height_of frame) in
       let v = plain_columns (map (key_values ps) by) (each (aggregated_on frame ps) aggs) columns made in
@@ -71,7 +71,7 @@ module _ (frame : List Series) (keys aggs : List Tree) (by columns : List Series
       let refused : step_refusals (group keys aggs None) frame ≡ repeat_refusal repeat =
       (λ i. first_of_two (some i) (first_of_two (kr i ++ ar i) (repeat_refusal repeat))) in
       let all = told columns repeat r (subst (Answers r) framed answer) in
-      subst (λ o. Makes r o (step_refusals (group keys aggs None) frame)) (sym on) (subst (Makes r (Some columns)) (sym refused) all)
+      subst (Meets r (step_refusals (group keys aggs None) frame)) (sym on) (subst (λ es. Meets r es (Some columns)) (sym refused) all)
 
 pub some_key : (keys : List (List ℕ)) → (length keys == 0) ≡ false → no_key_refusal (map column keys) ≡ []
 some_key [] h = cc

@@ -10,9 +10,10 @@ use Rattle.px_plan.specs.Tree.{column}
 use Rattle.px_steps.specs.Built.{is_built, is_built_key, is_built_agg}
 use Rattle.px_steps.specs.Direct as direct
 use Rattle.px_steps.specs.DirectLaws.{refusal_same, columns_same}
+use Rattle.px_steps.specs.Meets.{Meets}
 use Rattle.px_steps.specs.Plain as plain
 use Rattle.px_steps.specs.Plain.{first_of}
-use Rattle.px_vectors.specs.PlainStep.{Makes, step_by, tree_of}
+use Rattle.px_vectors.specs.PlainStep.{step_by, tree_of}
 use Rattle.px_vectors.specs.declared.plain_step.Aggregation.{Aggregation}
 use Rattle.px_vectors.specs.declared.plain_step.Aggregation.TheVariants.{Sum, Len}
 
@@ -33,19 +34,19 @@ none_first [] h = refl
 none_first (e ∷ es) h = cc
 
 -- the same refusals and the same frame are told alike
-makes_same : (r : Result (List Series) PxError) (a b : Option (List Series)) (es fs : List PxError) → a ≡ b → first_of es ≡ first_of fs → Makes r b fs → Makes r a es
-makes_same (Ok x) a b es fs p q h = (p ∙ h.0, none_first es (q ∙ ap first_of h.1))
-makes_same (Err (ColumnNotFound n)) a b es fs p q h = q ∙ h
-makes_same (Err (Duplicate n)) a b es fs p q h = q ∙ h
-makes_same (Err (InvalidOperation w)) a b es fs p q h = q ∙ h
-makes_same (Err (ComputeError w)) a b es fs p q h = q ∙ h
-makes_same (Err OutOfBounds) a b es fs p q h = q ∙ h
-makes_same (Err ShapeMismatch) a b es fs p q h = q ∙ h
-makes_same (Err SchemaMismatch) a b es fs p q h = q ∙ h
-makes_same (Err OutOfMemory) a b es fs p q h = tt
+meets_same : (r : Result (List Series) PxError) (a b : Option (List Series)) (es fs : List PxError) → a ≡ b → first_of es ≡ first_of fs → Meets r fs b → Meets r es a
+meets_same (Ok x) a b es fs p q h = (none_first es (q ∙ ap first_of h.0), p ∙ h.1)
+meets_same (Err (ColumnNotFound n)) a b es fs p q h = q ∙ h
+meets_same (Err (Duplicate n)) a b es fs p q h = q ∙ h
+meets_same (Err (InvalidOperation w)) a b es fs p q h = q ∙ h
+meets_same (Err (ComputeError w)) a b es fs p q h = q ∙ h
+meets_same (Err OutOfBounds) a b es fs p q h = q ∙ h
+meets_same (Err ShapeMismatch) a b es fs p q h = q ∙ h
+meets_same (Err SchemaMismatch) a b es fs p q h = q ∙ h
+meets_same (Err OutOfMemory) a b es fs p q h = tt
 
-pub makes_whole : (keys : List (List ℕ)) (aggs : List Aggregation) (frame : List Series) (r : Result (List Series) PxError) → IsFrame frame
-    → Makes r (direct.step_on (step_by keys aggs) frame) (direct.step_refusals (step_by keys aggs) frame)
-    → Makes r (plain.columns_made (step_by keys aggs) (alone frame)) (plain.step_refusals (step_by keys aggs) (alone frame))
-makes_whole keys aggs frame r is h =
-    makes_same r _ _ _ _ (columns_same (step_by keys aggs) frame (step_built keys aggs) is) (refusal_same (step_by keys aggs) frame (step_built keys aggs)) h
+pub meets_whole : (keys : List (List ℕ)) (aggs : List Aggregation) (frame : List Series) (r : Result (List Series) PxError) → IsFrame frame
+    → Meets r (direct.step_refusals (step_by keys aggs) frame) (direct.step_on (step_by keys aggs) frame)
+    → Meets r (plain.step_refusals (step_by keys aggs) (alone frame)) (plain.columns_made (step_by keys aggs) (alone frame))
+meets_whole keys aggs frame r is h =
+    meets_same r _ _ _ _ (columns_same (step_by keys aggs) frame (step_built keys aggs) is) (refusal_same (step_by keys aggs) frame (step_built keys aggs)) h

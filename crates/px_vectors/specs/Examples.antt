@@ -20,16 +20,19 @@ use Rattle.px_steps.specs.Step as step
 use Rattle.px_steps.specs.Step.{PlainStep, select, group}
 use Rattle.px_vectors.specs.Worked.{num, four_rows}
 
--- some numbers, texts and lists of numbers, as places
+-- some numbers, as places
 abbrev pub nums : List ℕ → List Slot
 nums ns = map num ns
 
+-- a text at a place
 abbrev pub word : List ℕ → Slot
 word s = Some (text s)
 
+-- a list of numbers at a place
 abbrev pub numbers : List ℕ → Slot
 numbers ns = Some (list (slots (nums ns)))
 
+-- a truth at a place
 abbrev pub truth : Bool → Slot
 truth b = Some (boolean b)
 
@@ -41,20 +44,23 @@ column_of name kind places = record { name = name; kind = kind; slots = places }
 abbrev pub four : Frame
 four = alone four_rows
 
--- the columns of these names
+-- the column k
 abbrev pub k : Tree
 k = column (codes "k")
 
+-- the column x
 abbrev pub x : Tree
 x = column (codes "x")
 
+-- the column y
 abbrev pub y : Tree
 y = column (codes "y")
 
--- a literal number and a literal null
+-- a literal number
 abbrev pub int : ℕ → Tree
 int n = literal (single int64s (num n))
 
+-- a literal null
 abbrev pub no_value : Tree
 no_value = literal (single nulls None)
 
@@ -67,6 +73,7 @@ abbrev pub negative : ℕ → Tree
 negative zero = int 0
 negative (suc n) = literal (single int64s (Some (integer (negsuc n))))
 
+-- some truths, as places
 abbrev pub truths : List Bool → List Slot
 truths bs = map truth bs
 
@@ -74,21 +81,27 @@ truths bs = map truth bs
 abbrev pub some_nulls : Frame
 some_nulls = alone (column_of (codes "x") int64s (num 1 ∷ None ∷ num 3 ∷ []) ∷ [])
 
+-- whether an expression's values are greater than a number
 abbrev pub greater : Tree → ℕ → Tree
 greater e n = binary e Gt (int n)
 
+-- the sum of an expression
 abbrev pub sum_of : Tree → Tree
 sum_of e = agg method.Sum e
 
+-- the greatest value of an expression
 abbrev pub max_of : Tree → Tree
 max_of e = agg method.Max e
 
+-- the first value of an expression
 abbrev pub first_of : Tree → Tree
 first_of e = agg method.First e
 
+-- the values of an expression's lists one after another
 abbrev pub explode : Tree → Tree
 explode e = function (one_tree e no_trees) Explode
 
+-- the rows of an expression from last to first
 abbrev pub reversed : Tree → Tree
 reversed e = function (one_tree e no_trees) Reverse
 
@@ -96,6 +109,7 @@ reversed e = function (one_tree e no_trees) Reverse
 abbrev pub rising : SortOptions
 rising = record { descending = false; nulls_last = false }
 
+-- falling, nulls first
 abbrev pub falling : SortOptions
 falling = record { descending = true; nulls_last = false }
 
@@ -107,9 +121,11 @@ over_k f mapping = window f (one_tree k no_trees) no_order mapping
 abbrev pub by_key : Tree → List Tree → PlainStep
 by_key key aggs = group (key ∷ []) aggs None
 
+-- the error of an invalid operation
 abbrev pub invalid : InvalidWhy → Option PxError
 invalid why = Some (InvalidOperation why)
 
+-- the error of a computation that fails
 abbrev pub failed : ComputeWhy → Option PxError
 failed why = Some (ComputeError why)
 

@@ -11,10 +11,11 @@ use Rattle.px_steps.specs.Step.{PlainStep, group}
 abbrev pub num : ℕ → Slot
 num n = Some (integer (pos n))
 
--- columns of two types
+-- a column of Int64
 abbrev pub int64_column : List ℕ → List Slot → Series
 int64_column name places = record { name = name; kind = int64s; slots = places }
 
+-- a column of UInt32
 abbrev pub uint32_column : List ℕ → List Slot → Series
 uint32_column name places = record { name = name; kind = uint32s; slots = places }
 

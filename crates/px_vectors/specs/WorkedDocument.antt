@@ -32,6 +32,7 @@ aggs_data =
 abbrev pub group_data : Members → Data
 group_data more = only_member (codes "group") (object (member (codes "aggs") (array aggs_data) (member (codes "chunks") null (member (codes "keys") (array (item (col_data (codes "k")) no_items)) more))))
 
+-- the columns k and x of the four rows
 abbrev pub columns_data : Items
 columns_data = item (column_data (codes "k") (7 ∷ 9 ∷ 7 ∷ 7 ∷ [])) (item (column_data (codes "x") (0 ∷ 1 ∷ 2 ∷ 3 ∷ [])) no_items)
 

@@ -17,8 +17,9 @@ ghost use Rattle.px_steps.specs.Direct.{kind_on, value_on, agg_refusals, aggrega
 ghost use Rattle.px_plan.specs.Shape.{name_of};
 ghost use Rattle.px_plan.specs.Tree.{column};
 ghost use Rattle.px_column.specs.Option.{each};
+ghost use Rattle.px_steps.specs.Meets.{Meets, MeetsBy};
 ghost use Rattle.px_steps.specs.Plain.{columns_made, key_values, step_refusals};
-ghost use Rattle.px_vectors.specs.PlainStep.{IsPart, Makes, MakesBy, step_by, tree_of};
+ghost use Rattle.px_vectors.specs.PlainStep.{IsPart, step_by, tree_of};
 
 use crate::plain::plain_parts;
 use px_column::kernels::sum::wrapped_sum;
@@ -88,7 +89,7 @@ fn rows_of(alloc: Global, column: &Column, rows: &[u32]) -> Px<Column>
 
 /// A key as a column: `ColumnNotFound` where there is none, then `ListKey` where it is of a List type.
 fn key_column(alloc: Global, frame: &DataFrame, key: &Name) -> Px<Column>
-    ensures { Makes result (key_on frame.now (column key.now)) (key_refusals frame.now (column key.now)) }
+    ensures { Meets result (key_refusals frame.now (column key.now)) (key_on frame.now (column key.now)) }
 {
     let Some(column) = frame.column(key) else {
         return Err(PxError::ColumnNotFound(key.try_clone(alloc)?));
@@ -102,7 +103,7 @@ fn key_column(alloc: Global, frame: &DataFrame, key: &Name) -> Px<Column>
 }
 
 fn key_columns(alloc: Global, frame: &DataFrame, keys: &[Name]) -> Px<Vec<Column>>
-    ensures { MakesBy (λ v. v.items) result (each (key_on frame.now) (map column keys.now)) (flat_map (key_refusals frame.now) (map column keys.now)) }
+    ensures { MeetsBy (λ v. v.items) result (flat_map (key_refusals frame.now) (map column keys.now)) (each (key_on frame.now) (map column keys.now)) }
 {
     let mut columns = Vec::new(alloc);
     for key in keys {
@@ -179,7 +180,7 @@ fn value_on(alloc: Global, frame: &DataFrame, agg: &Aggregation) -> Px<Option<Va
 /// The type of an aggregation's values: `ColumnNotFound` where its column is not there, then `Types` where
 /// such values cannot be summed.
 fn type_on(alloc: Global, frame: &DataFrame, agg: &Aggregation) -> Px<DataType>
-    ensures { MakesBy kind_of result (kind_on (tree_of agg.now) frame.now) (agg_refusals frame.now (tree_of agg.now)) }
+    ensures { MeetsBy kind_of result (agg_refusals frame.now (tree_of agg.now)) (kind_on (tree_of agg.now) frame.now) }
 {
     match agg {
         Aggregation::Len => Ok(DataType::UInt32),
@@ -226,7 +227,7 @@ fn part_values(
 fn aggregated(alloc: Global, frame: &DataFrame, parts: &[Vec<u32>], agg: &Aggregation) -> Px<Column>
     requires few { length parts.now < 2 ^ 32 }
     requires parts { All (λ p. IsPart (height_of frame.now) p.items) parts.now }
-    ensures { Makes result (aggregated_on frame.now (map (λ p. p.items) parts.now) (tree_of agg.now)) (agg_refusals frame.now (tree_of agg.now)) }
+    ensures { Meets result (agg_refusals frame.now (tree_of agg.now)) (aggregated_on frame.now (map (λ p. p.items) parts.now) (tree_of agg.now)) }
 {
     let dtype = type_on(alloc, frame, agg)?;
     let values = part_values(alloc, frame, parts, agg)?;
@@ -241,8 +242,8 @@ fn aggregated_columns(
 ) -> Px<Vec<Column>>
     requires few { length parts.now < 2 ^ 32 }
     requires parts { All (λ p. IsPart (height_of frame.now) p.items) parts.now }
-    ensures { MakesBy (λ v. v.items) result (each (aggregated_on frame.now (map (λ p. p.items) parts.now)) (map tree_of aggs.now))
-        (flat_map (agg_refusals frame.now) (map tree_of aggs.now)) }
+    ensures { MeetsBy (λ v. v.items) result (flat_map (agg_refusals frame.now) (map tree_of aggs.now))
+        (each (aggregated_on frame.now (map (λ p. p.items) parts.now)) (map tree_of aggs.now)) }
 {
     let mut columns = Vec::new(alloc);
     for agg in aggs {
@@ -258,7 +259,7 @@ fn grouped_columns(
     by: &[Column],
     aggs: &[Aggregation],
 ) -> Px<Vec<Column>>
-    ensures { MakesBy (λ v. v.items) result (columns_on frame.now by.now (map tree_of aggs.now)) (flat_map (agg_refusals frame.now) (map tree_of aggs.now)) }
+    ensures { MeetsBy (λ v. v.items) result (flat_map (agg_refusals frame.now) (map tree_of aggs.now)) (columns_on frame.now by.now (map tree_of aggs.now)) }
 {
     let parts = plain_parts(alloc, by, frame.height())?;
     let mut columns = first_values(alloc, by, &parts)?;
@@ -273,7 +274,7 @@ fn grouped_frame(
     keys: &[Name],
     aggs: &[Aggregation],
 ) -> Px<DataFrame>
-    ensures { Makes result (step_on (step_by keys.now aggs.now) frame.now) (direct.step_refusals (step_by keys.now aggs.now) frame.now) }
+    ensures { Meets result (direct.step_refusals (step_by keys.now aggs.now) frame.now) (step_on (step_by keys.now aggs.now) frame.now) }
 {
     if keys.is_empty() {
         return Err(PxError::ComputeError(ComputeWhy::NoKey));
@@ -292,7 +293,7 @@ pub fn plain_group_step(
     aggs: &[Aggregation],
 ) -> Px<DataFrame>
     // The frame of the step's definition, or the first of its refusals.
-    ensures { Makes result (columns_made (step_by keys.now aggs.now) (alone frame.now)) (step_refusals (step_by keys.now aggs.now) (alone frame.now)) }
+    ensures { Meets result (step_refusals (step_by keys.now aggs.now) (alone frame.now)) (columns_made (step_by keys.now aggs.now) (alone frame.now)) }
 {
     let _columns = frame.get_columns();
     grouped_frame(alloc, frame, keys, aggs)

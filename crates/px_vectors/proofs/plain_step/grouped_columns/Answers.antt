@@ -35,5 +35,5 @@ returns c =
     let keys : c.in_ok-columns.columns.items ≡ map (key_values ps) c.args.by.now =
     told _ _ c.in_ok-columns.ensures ∙ ap (λ (vs : List (Vec ℕ Global)). map (key_values (map (λ p. p.items) vs)) c.args.by.now) c.deref.ensures.value in
     let values : each (aggregated_on c.args.frame.now ps) (map tree_of c.args.aggs.now) ≡ Some c.in_ok-values.values.items =
-    ap (λ (vs : List (Vec ℕ Global)). each (aggregated_on c.args.frame.now (map (λ p. p.items) vs)) (map tree_of c.args.aggs.now)) (sym c.deref-2.ensures.value) ∙ c.in_ok-values.ensures.0 in
-    (columns_made c.args.frame.now c.args.by.now _ _ ps (map tree_of c.args.aggs.now) parts keys values ∙ ap Some (sym c.in_ok-append.ensures.items), c.in_ok-values.ensures.1)
+    ap (λ (vs : List (Vec ℕ Global)). each (aggregated_on c.args.frame.now (map (λ p. p.items) vs)) (map tree_of c.args.aggs.now)) (sym c.deref-2.ensures.value) ∙ c.in_ok-values.ensures.1 in
+    (c.in_ok-values.ensures.0, columns_made c.args.frame.now c.args.by.now _ _ ps (map tree_of c.args.aggs.now) parts keys values ∙ ap Some (sym c.in_ok-append.ensures.items))

@@ -23,4 +23,4 @@ returns c =
     let copied : c.in_ok-copy.copy ≡ s = made ∙ (λ i. record s { slots = (ap (slots_at s.slots) rows ∙ all_slots s.slots) i }) in
     let named : c.in_ok-try_clone-2.field-0 ≡ c.args.key.now = told _ _ c.in_ok-try_clone-2.ensures in
     let is : c.with_name.result ≡ record s { name = c.args.key.now } = c.with_name.ensures ∙ (λ i. record (copied i) { name = named i }) in
-    (key_found c.args.frame.now c.args.key.now s c.in-Some.ensures.found ∙ ap Some (sym is), key_passes c.args.frame.now c.args.key.now s c.in-Some.ensures.found (ap is_list_kind (sym c.dtype.ensures) ∙ sym c.is_list.ensures ∙ c.if-is_list.false))
+    (key_passes c.args.frame.now c.args.key.now s c.in-Some.ensures.found (ap is_list_kind (sym c.dtype.ensures) ∙ sym c.is_list.ensures ∙ c.if-is_list.false), key_found c.args.frame.now c.args.key.now s c.in-Some.ensures.found ∙ ap Some (sym is))
