@@ -42,13 +42,9 @@ fn run_document<L: Ledger, M: Ledger>(
 fn write_reply<W: Write>(alloc: Global, out: &mut W, document: Vec<u8>) -> anyhow::Result<()> {
     let mut source = MemorySource::new(document, 7, Vec::new(alloc));
     let mut sink = MemorySink::new(alloc, ROOM, 5, Vec::new(alloc))?;
-    let status = run_document::<Brand, Brand>(
-        alloc,
-        &mut source,
-        &mut sink,
-        Blank::new(1),
-        Blank::new(1),
-    )?;
+    let kernels = Blank::new(1);
+    let groupings = Blank::new(1);
+    let status = run_document::<Brand, Brand>(alloc, &mut source, &mut sink, kernels, groupings)?;
     writeln!(out, "{}", status.number())?;
     out.write_all(sink.bytes())?;
     Ok(())
