@@ -37,7 +37,7 @@ kind_number binaries = 10
 kind_number nulls = 11
 kind_number (lists k) = suc (suc (suc (suc (suc (suc (suc (suc (suc (suc (suc (suc (kind_number k))))))))))))
 
--- the type of a number
+-- the type that a number stands for
 abbrev pub kind_back : ℕ → Kind
 kind_back zero = booleans
 kind_back (suc zero) = int8s

@@ -239,7 +239,7 @@ mutual
   run-order_tokens no_order rest ts us os = refl
   run-order_tokens (ordered t options) rest ts us os = run-tokens t (at_order options ∷ rest) ts us os
 
--- the tree on top of a stack
+-- the tree on top of a stack, a length where there is none
 abbrev top : List Tree → Tree
 top [] = len
 top (t ∷ ts) = t

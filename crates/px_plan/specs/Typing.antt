@@ -167,7 +167,7 @@ grouped_reduction_refusals m e =
     ++ refused_where (is_literal_tree e) (ComputeError AggLiteral)
     ++ refused_where (is_unit e && not (is_implode m)) (ComputeError AggScalar)
 
--- the same of the first of some inputs
+-- the refusal of a first input that is one value in each group
 abbrev pub first_scalar_refusal : Trees → List PxError
 first_scalar_refusal no_trees = []
 first_scalar_refusal (one_tree t ts) = scalar_refusal t
