@@ -3,7 +3,9 @@
 //! written as it is.
 #![tactic(auto)]
 
-ghost use Rattle.std.specs.Prelude.{◌≡◌, ◌<◌};
+ghost use Rattle.std.specs.Prelude.{◌≡◌, ◌≢◌, ◌<◌, IfOk, Some};
+ghost use Rattle.px_steps.specs.Ends.{Rose};
+ghost use Rattle.px_steps.specs.Run.{Ends};
 
 use px_column::{Px, Steps};
 use px_steps::run::run;
@@ -30,6 +32,14 @@ fn run_document<L: Ledger, M: Ledger>(
     requires groupings_name { groupings.name ≡ M.name }
     requires groupings_parts { groupings.parts ≡ M.parts }
     requires groupings_some { 0 < groupings.parts }
+    // How the run ends, over the bytes of the document.
+    ensures ends { IfOk result (λ status.
+        Ends status source.old.rest (Some source.new.rest) (Some sink.old.bytes) (Some sink.new.bytes)) }
+    // No fault is told that was not there.
+    ensures read_fault { IfOk result (λ status. status ≡ Status.ReadFault → Rose source.old.faults source.new.faults) }
+    ensures write_fault { IfOk result (λ status. status ≡ Status.WriteFault → Rose sink.old.faults sink.new.faults) }
+    // Its words are right.
+    ensures command { IfOk result (λ status. status ≢ Status.Usage) }
 {
     let mut words = Vec::new(alloc);
     words.push(String::from_str(alloc, "run")?)?;
