@@ -3,7 +3,9 @@
 //! written as it is.
 #![tactic(auto)]
 
-ghost use Rattle.std.specs.Prelude.{◌≡◌, ◌≢◌, ◌<◌, IfOk, Some};
+ghost use Rattle.std.specs.Prelude.{◌≡◌, ◌≢◌, ◌<◌, ℕ, List, IfOk, OnOk, Some};
+ghost use Rattle.std.specs.Io.KnownBytes.{Appends};
+ghost use Rattle.px_documents.specs.Told.{IsTold};
 ghost use Rattle.px_steps.specs.Ends.{Rose};
 ghost use Rattle.px_steps.specs.Run.{Ends};
 
@@ -49,7 +51,10 @@ fn run_document<L: Ledger, M: Ledger>(
 }
 
 // Writes how a run of a document ends, and what it writes.
-fn write_reply<W: Write>(alloc: Global, out: &mut W, document: Vec<u8>) -> anyhow::Result<()> {
+fn write_reply<W: Write>(alloc: Global, out: &mut W, document: Vec<u8>) -> anyhow::Result<()>
+    // Where the writer tells what it holds, that has grown by what is told of the document.
+    ensures { OnOk result ((told : List ℕ) × IsTold document.items told × Appends (W.contents out.old) (W.contents out.new) told) }
+{
     let mut source = MemorySource::new(document, 7, Vec::new(alloc));
     let mut sink = MemorySink::new(alloc, ROOM, 5, Vec::new(alloc))?;
     let kernels = Blank::new(1);
