@@ -14,9 +14,9 @@ use std::marker::Model;
 /// The column of a name (polars `ColumnExpr`).
 #[derive(Drop)]
 pub struct ColumnExpr {
-    name: Name,
-    expr: Expr,
-    schema: SchemaRef,
+    pub(crate) name: Name,
+    pub(crate) expr: Expr,
+    pub(crate) schema: SchemaRef,
 }
 
 impl Model for ColumnExpr {
@@ -70,8 +70,8 @@ impl ColumnExpr {
 /// A literal (polars `LiteralExpr`).
 #[derive(Drop)]
 pub struct LiteralExpr {
-    value: LiteralValue,
-    expr: Expr,
+    pub(crate) value: LiteralValue,
+    pub(crate) expr: Expr,
 }
 
 impl Model for LiteralExpr {
@@ -119,9 +119,9 @@ impl LiteralExpr {
 #[cycle(node)]
 #[derive(Drop)]
 pub struct AliasExpr {
-    physical_expr: Box<PhysExpr>,
-    name: Name,
-    expr: Expr,
+    pub(crate) physical_expr: Box<PhysExpr>,
+    pub(crate) name: Name,
+    pub(crate) expr: Expr,
 }
 
 impl Model for AliasExpr {
@@ -195,9 +195,9 @@ pub struct AggregationType {
 #[cycle(node)]
 #[derive(Drop)]
 pub struct AggregationExpr {
-    expr: Box<PhysExpr>,
-    agg_type: AggregationType,
-    field: Option<Field>,
+    pub(crate) expr: Box<PhysExpr>,
+    pub(crate) agg_type: AggregationType,
+    pub(crate) field: Option<Field>,
 }
 
 impl Model for AggregationExpr {
@@ -223,7 +223,11 @@ impl Model for AggregationExpr {
 
 impl AggregationExpr {
     /// A reduction of a node; the field is a hint, which changes nothing.
-    pub fn new(expr: Box<PhysExpr>, agg_type: AggregationType, field: Option<Field>) -> AggregationExpr
+    pub fn new(
+        expr: Box<PhysExpr>,
+        agg_type: AggregationType,
+        field: Option<Field>,
+    ) -> AggregationExpr
         ensures input { result.input ≡ plan_of expr.value }
         ensures method { result.method ≡ agg_type.groupby }
         ensures field { result.field ≡ option_map field_kind field }
@@ -260,7 +264,7 @@ impl AggregationExpr {
 /// The number of rows (polars `CountExpr`).
 #[derive(Drop)]
 pub struct CountExpr {
-    expr: Expr,
+    pub(crate) expr: Expr,
 }
 
 impl Model for CountExpr {
