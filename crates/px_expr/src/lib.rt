@@ -13,6 +13,8 @@ mod literal;
 mod node;
 mod physical;
 mod planner;
+#[cfg(test)]
+mod tests;
 
 pub use built::is_built;
 pub use conversion::{ExpressionConversionState, LocalConversionState, get_expr_depth_limit};
