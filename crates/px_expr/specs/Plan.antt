@@ -1,5 +1,6 @@
 -- What the planner makes of an expression.
-use Rattle.std.specs.Prelude.{◌≡◌, ℕ, ◌<◌, true, ◌||◌, List, [], ◌∷◌, Option, Some, None, Result, Ok, length, map, fold, take}
+use Rattle.std.specs.Prelude.{◌≡◌, ℕ, ◌+◌, ◌<◌, true, ◌||◌, List, [], ◌∷◌, Option, Some, None, Result, Ok, length, map, fold, take}
+use Rattle.px_column.specs.Answer.{Refuses}
 use Rattle.px_column.specs.Result.{◌>>=◌}
 use Rattle.px_column.specs.declared.error.PxError.{PxError}
 use Rattle.px_plan.specs.Arena.{tree_at}
@@ -51,6 +52,10 @@ noted_at ts s e = noted (tree_at ts e.node) s
 abbrev pub all_noted : List Tree → ExpressionConversionState → List NamedNode → ExpressionConversionState
 all_noted ts s es = fold (noted_at ts) s es
 
--- what is noted of some expressions is what is noted of a front of them
-abbrev pub NotesFront : List Tree → ExpressionConversionState → List NamedNode → ExpressionConversionState → Type 0
-NotesFront ts s es new = (n : ℕ) × (new ≡ all_noted ts s (take n es))
+-- of some expressions a front was planned and noted, and the next one is refused, unless memory was wanting
+pub record NotesFront (error : PxError) (ts : List Tree) (scope : Scope) (place : Context) (s : ExpressionConversionState) (es : List NamedNode) (new : ExpressionConversionState) : Type 0 where
+  pub count : ℕ
+  pub plans : List Planned
+  pub planned : plans_in (take count es) ts scope place ≡ Ok plans
+  pub refused : Refuses error (plans_in (take (count + 1) es) ts scope place)
+  pub noted : new ≡ all_noted ts s (take count es)

@@ -1,5 +1,5 @@
 //! From expressions in an arena to nodes.
-ghost use Rattle.std.specs.Prelude.{◌≡◌, ◌<◌, true, [], length, map, Ok, OnOk, OnErr};
+ghost use Rattle.std.specs.Prelude.{◌≡◌, ◌<◌, true, [], length, map, Ok, IfErr, OnOk, OnErr};
 ghost use Rattle.std.specs.List.{All};
 ghost use Rattle.px_column.specs.Answer.{AnswersBy};
 ghost use Rattle.px_column.specs.declared.method.GroupByMethod.TheVariants.{Sum};
@@ -35,7 +35,7 @@ pub fn create_physical_expressions_from_irs(
     requires { All (IsPlannable expr_arena.now) exprs.now }
     ensures nodes { AnswersBy (λ v. map plan_of v.items) result (plans_in exprs.now expr_arena.now schema.now.value context) }
     ensures noted { OnOk result (state.new ≡ all_noted expr_arena.now state.old exprs.now) }
-    ensures refused { OnErr result (NotesFront expr_arena.now state.old exprs.now state.new) }
+    ensures refused { IfErr result (λ e. NotesFront e expr_arena.now schema.now.value context state.old exprs.now state.new) }
 {
     let mut plans = Vec::with_capacity(alloc, exprs.len())?;
     for expr_ir in exprs {
