@@ -15,4 +15,4 @@ pub use cell::{Cell, UnitColumn, assemble, spread};
 pub use frame::DataFrame;
 pub use grouping::group_by;
 pub use groups::{GroupPositions, GroupsIndicator, GroupsType, IdxVec};
-pub use schema::{Field, Schema};
+pub use schema::{Field, Schema, SchemaRef};

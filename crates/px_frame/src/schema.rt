@@ -12,6 +12,7 @@ use indexmap::IndexMap;
 use px_column::{Column, DataType, Name, Px, PxError};
 use std::alloc::Global;
 use std::marker::Model;
+use std::rc::Rc;
 
 /// A name and the type of what has it (polars `Field`).
 #[derive(Drop)]
@@ -26,6 +27,9 @@ pub struct Field {
 pub struct Schema {
     fields: IndexMap<Name, DataType>,
 }
+
+/// A schema with several owners (polars `SchemaRef`).
+pub type SchemaRef = Rc<Schema>;
 
 impl Model for Schema {
     ghost use Rattle.std.specs.Prelude.{List};

@@ -1,0 +1,10 @@
+pub mod Built
+pub mod Deep
+pub mod Depth
+pub mod Inline
+pub mod Live
+pub mod NodeView
+pub mod Plan
+pub mod Planned
+pub mod Size
+pub mod Value

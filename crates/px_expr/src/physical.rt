@@ -1,0 +1,75 @@
+//! What each node offers.
+ghost use Rattle.std.specs.Prelude.{◌≡◌, Ok, IfOk, IfErr, OnOk, OnErr, option_map};
+ghost use Rattle.px_column.specs.Answer.{AnswersBy, Answers};
+ghost use Rattle.px_frame.specs.External.{alone};
+ghost use Rattle.px_frame.specs.SchemaView.{field_kind};
+ghost use Rattle.px_plan.specs.Shape.{is_unit};
+ghost use Rattle.px_plan.specs.View.{tree};
+ghost use Rattle.px_expr.specs.Inline.{inline_on};
+ghost use Rattle.px_expr.specs.Live.{expression_of, field_on, is_literal_node, is_partitioned, live_names, added, AddsFront};
+ghost use Rattle.px_expr.specs.Planned.{Planned};
+ghost use Rattle.px_expr.specs.Value.{IsValue, IsCause};
+
+use indexmap::IndexSet;
+use px_column::{Column, Name, Px, Steps};
+use px_frame::{DataFrame, Field, Schema};
+use px_plan::Expr;
+use px_window::ExecutionState;
+use std::alloc::Global;
+use std::sync::ledger::Ledger;
+
+/// An expression that can be evaluated on a frame (polars `PhysicalExpr`).
+pub trait PhysicalExpr {
+    ghost planned: { Self → Planned };
+
+    /// The expression: none for a reduction; for an alias the one that it stands over.
+    fn as_expression(&self) -> Option<&Expr>
+        ensures { option_map (λ e. tree e.now) result ≡ expression_of (planned self.now).tree };
+
+    /// The value on a frame as a column, a unit as one row. What is refused, missing or a fault is told
+    /// by its error; `TooLong` comes only where the expression, or one in it, has 2^32 values or more.
+    fn evaluate<L: Ledger, M: Ledger>(
+        &self,
+        alloc: Global,
+        df: &DataFrame,
+        state: &mut ExecutionState,
+        kernels: &mut Steps<L>,
+        groupings: &mut Steps<M>,
+    ) -> Px<Column>
+        ensures value { IfOk result (λ c. IsValue (planned self.now) (alone df.now) c) }
+        ensures causes { IfErr result (λ e. IsCause e (planned self.now) (alone df.now)) }
+        ensures frame { state.new ≡ state.old }
+        ensures grouped { groupings.new ≡ groupings.old };
+
+    /// The value without a frame, where it is there: that of a literal which is no range, under at most
+    /// four aliases.
+    fn evaluate_inline(&self, alloc: Global) -> Px<Option<Column>>
+        ensures inline { Answers result (Ok (inline_on 4 (planned self.now).tree)) };
+
+    /// The same under at most `depth_limit` aliases.
+    fn evaluate_inline_impl(&self, alloc: Global, depth_limit: u8) -> Px<Option<Column>>
+        ensures inline { Answers result (Ok (inline_on depth_limit (planned self.now).tree)) };
+
+    /// The name and the type over a schema, or the first refusal.
+    fn to_field(&self, alloc: Global, input_schema: &Schema) -> Px<Field>
+        ensures field { AnswersBy field_kind result (field_on (planned self.now).tree input_schema.now) };
+
+    /// Adds the names of the columns that are read and those that aliases give, in the order of visit.
+    /// Out of memory, the names that were added so far stay.
+    fn collect_live_columns(&self, alloc: Global, lv: &mut IndexSet<Name>) -> Px<()>
+        ensures answer { Answers result (Ok tt) }
+        ensures live { OnOk result (lv.new.keys ≡ added lv.old.keys (live_names (planned self.now).tree)) }
+        ensures part { OnErr result (AddsFront lv.old.keys (live_names (planned self.now).tree) lv.new.keys) };
+
+    /// Whether it is a literal, also under aliases.
+    fn is_literal(&self) -> bool
+        ensures { result ≡ is_literal_node (planned self.now).tree };
+
+    /// Whether it has one value, whatever the frame.
+    fn is_scalar(&self) -> bool
+        ensures { result ≡ is_unit (planned self.now).tree };
+
+    /// Whether its kind can be evaluated on chunks of rows, whose partial results are merged.
+    fn is_partitioned_aggregator(&self) -> bool
+        ensures { result ≡ is_partitioned (planned self.now).tree };
+}
