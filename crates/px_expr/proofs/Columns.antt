@@ -119,12 +119,12 @@ field_look n (t ∷ columns) = by (name_eq n t.name) (field_look n columns)
 -- the column that a node finds is its value
 pub found_is_value : (c : PlannedColumn) (columns : List Series) (s : Series) → found_by c (alone columns) ≡ Some s → look c.name columns ≡ Some s → IsValue (record { tree = column c.name; columns = c ∷ [] }) (alone columns) s
 found_is_value c columns s f l = record {
-    sound = rw (kind, f, l) refl;
-    name = sym (column_named c.name columns s l);
-    kind = kind;
-    value = rw l refl;
-    unit = λ h. absurd (cc h);
-  }
+  sound = rw (kind, f, l) refl;
+  name = sym (column_named c.name columns s l);
+  kind = kind;
+  value = rw l refl;
+  unit = λ h. absurd (cc h);
+}
   where
     kind : kind_of_name c.name (map column_field columns) ≡ Some s.kind
     kind = rw (field_look c.name columns, l) refl

@@ -34,7 +34,10 @@ fn is_added(name: &Name, schema: &Schema) -> bool
 fn column_behind<'a>(columns: &'a [Column], places: usize, name: &Name) -> Option<&'a Column>
     ensures { option_map (λ c. c.now) result ≡ look name.now (drop places columns.now) }
 {
-    columns.iter().skip(places).find(|column| column.name() == name)
+    columns
+        .iter()
+        .skip(places)
+        .find(|column| column.name() == name)
 }
 
 /// The column that a node of this name finds, which was planned over this schema.
