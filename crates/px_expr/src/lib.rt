@@ -11,6 +11,7 @@ mod literal;
 mod node;
 mod physical;
 mod planner;
+mod range;
 
 pub use conversion::ExpressionConversionState;
 pub use node::{
