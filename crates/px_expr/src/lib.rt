@@ -13,6 +13,7 @@ mod literal;
 mod node;
 mod physical;
 mod planner;
+mod range;
 #[cfg(test)]
 mod tests;
 
