@@ -9,7 +9,7 @@ use Rattle.px_column.specs.declared.error.PxError.{PxError}
 use Rattle.px_column.specs.declared.error.PxError.TheVariants.{ColumnNotFound, Duplicate, InvalidOperation, ComputeError, OutOfBounds, ShapeMismatch, SchemaMismatch, OutOfMemory}
 use Rattle.px_frame.specs.External.{Frame, alone}
 use Rattle.px_frame.specs.Frame.{IsFrame, height_of}
-use Rattle.px_steps.specs.Built.{is_built}
+use Rattle.px_steps.specs.Built.{is_built_group}
 use Rattle.px_steps.specs.Direct as direct
 use Rattle.px_steps.specs.DirectLaws.{refusal_same, columns_same}
 use Rattle.px_steps.specs.Document.{Doc}
@@ -22,15 +22,15 @@ use Rattle.px_steps.specs.Step.{PlainStep}
 use Rattle.px_steps.specs.Text.{text_of}
 use Rattle.px_steps.proofs.DocumentSteps.{text_built}
 
-one_built : (s : PlainStep) → list_all is_built (s ∷ []) ≡ true → is_built s ≡ true
-one_built s h = by (is_built s) h
+one_built : (s : PlainStep) → list_all is_built_group (s ∷ []) ≡ true → is_built_group s ≡ true
+one_built s h = by (is_built_group s) h
   where
     by : (b : Bool) → (b && true) ≡ true → b ≡ true
     by true h = refl
     by false h = cc
 
 -- the first refusal of one step
-first_same : (s : PlainStep) (frame : List Series) → is_built s ≡ true → plain.first_refusal_of (s ∷ []) (alone frame) ≡ first_of (direct.refusals_on (s ∷ []) frame)
+first_same : (s : PlainStep) (frame : List Series) → is_built_group s ≡ true → plain.first_refusal_of (s ∷ []) (alone frame) ≡ first_of (direct.refusals_on (s ∷ []) frame)
 first_same s frame b =
     ap (λ o. option_or o (option_map_or (λ (g : Frame). None) (plain.step_on s (alone frame)) None)) (refusal_same s frame b)
     ∙ by (direct.step_refusals s frame) (plain.step_on s (alone frame)) (direct.step_on s frame)
@@ -44,7 +44,7 @@ first_same s frame b =
     by [] (Some g) (Some f) = refl
 
 -- the frame that one step makes
-plain_same : (s : PlainStep) (frame : List Series) → is_built s ≡ true → IsFrame frame → plain.plain_on (s ∷ []) (alone frame) ≡ option_map alone (direct.plain_on (s ∷ []) frame)
+plain_same : (s : PlainStep) (frame : List Series) → is_built_group s ≡ true → IsFrame frame → plain.plain_on (s ∷ []) (alone frame) ≡ option_map alone (direct.plain_on (s ∷ []) frame)
 plain_same s frame b is =
     ap (λ o. option_map (λ columns. record (alone frame) { columns = columns }) o >>= plain.plain_on []) (columns_same s frame b is) ∙ by (direct.step_on s frame)
   where
@@ -53,7 +53,7 @@ plain_same s frame b is =
     by (Some columns) = refl
 
 -- both, for the steps of a document
-steps_same : (steps : List PlainStep) (frame : List Series) → (list_all is_built steps ≡ true) × (length steps ≡ 1) → IsFrame frame
+steps_same : (steps : List PlainStep) (frame : List Series) → (list_all is_built_group steps ≡ true) × (length steps ≡ 1) → IsFrame frame
     → (plain.first_refusal_of steps (alone frame) ≡ first_of (direct.refusals_on steps frame)) × (plain.plain_on steps (alone frame) ≡ option_map alone (direct.plain_on steps frame))
 steps_same [] frame h is = cc
 steps_same (s ∷ []) frame h is = (first_same s frame (one_built s h.0), plain_same s frame (one_built s h.0) is)

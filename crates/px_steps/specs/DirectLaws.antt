@@ -18,7 +18,7 @@ use Rattle.px_frame.specs.Schema.{FieldKind, column_field, has_field_name}
 use Rattle.px_plan.specs.Shape.{name_of}
 use Rattle.px_plan.specs.Tree.{Tree, column, agg, len}
 use Rattle.px_plan.specs.Typing.{kind_of_name, refused_where, fails, not_list}
-use Rattle.px_steps.specs.Built.{is_built, is_built_key, is_built_agg}
+use Rattle.px_steps.specs.Built.{is_built_group, is_built_key, is_built_agg}
 use Rattle.px_steps.specs.Direct as direct
 use Rattle.px_steps.specs.Plain as plain
 use Rattle.px_steps.specs.Plain.{first_of, key_values}
@@ -186,7 +186,7 @@ repeat_same None = refl
 repeat_same (Some n) = refl
 
 -- the first refusal of such a step
-pub refusal_same : (s : PlainStep) (frame : List Series) → is_built s ≡ true → plain.first_refusal s (alone frame) ≡ first_of (direct.step_refusals s frame)
+pub refusal_same : (s : PlainStep) (frame : List Series) → is_built_group s ≡ true → plain.first_refusal s (alone frame) ≡ first_of (direct.step_refusals s frame)
 refusal_same (group keys aggs None) frame b =
     let built = all_and (list_all is_built_key keys) (list_all is_built_agg aggs) b in
     let k : flat_map (plain.key_refusals (alone frame)) keys ≡ flat_map (direct.key_refusals frame) keys
@@ -212,7 +212,7 @@ front_same front None = refl
 front_same front (Some ys) = refl
 
 -- the columns that such a step makes of a frame
-pub columns_same : (s : PlainStep) (frame : List Series) → is_built s ≡ true → IsFrame frame → plain.columns_made s (alone frame) ≡ direct.step_on s frame
+pub columns_same : (s : PlainStep) (frame : List Series) → is_built_group s ≡ true → IsFrame frame → plain.columns_made s (alone frame) ≡ direct.step_on s frame
 columns_same (group keys aggs None) frame b is =
     let built = all_and (list_all is_built_key keys) (list_all is_built_agg aggs) b in
     let k : each (plain.key_on (alone frame)) keys ≡ each (direct.key_on frame) keys

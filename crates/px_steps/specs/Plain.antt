@@ -197,3 +197,12 @@ AreValid (s ∷ steps) frame = IsValid s frame × ((next : Frame) → step_on s 
 abbrev pub first_refusal_of : List PlainStep → Frame → Option PxError
 first_refusal_of [] frame = None
 first_refusal_of (s ∷ steps) frame = option_or (first_refusal s frame) (option_map_or (first_refusal_of steps) (step_on s frame) None)
+
+-- how many times a step forms groups
+abbrev pub groupings_in : PlainStep → ℕ
+groupings_in (group keys aggs chunks) = 1
+groupings_in _ = 0
+
+-- how many times steps form groups
+abbrev pub groupings_of : List PlainStep → ℕ
+groupings_of steps = sum (map groupings_in steps)

@@ -8,6 +8,7 @@ mod memory;
 mod reply;
 pub mod run;
 mod run_steps;
+mod select_step;
 mod sink;
 mod source;
 mod standard;
