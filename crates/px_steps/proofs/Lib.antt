@@ -4,6 +4,7 @@ pub mod Taking
 pub mod Separated
 pub mod Named
 pub mod Selected
+pub mod CellLoop
 pub mod Columns
 pub mod KeyLoop
 pub mod DocumentSteps

@@ -1,9 +1,12 @@
 -- What is known of planned expressions that are not refused: their types, their columns, and why they have no value.
 use Rattle.std.proofs.Common.{◌≡◌, ◌⊎◌, inl, inr, ℕ, ◌^◌, ◌≤◌, Bool, true, false, not, ◌&&◌, ◌||◌, cond, List, [], ◌∷◌, ◌++◌, Option, Some, None, Result, Ok, Err, option_map, option_and_then, map, arith, max, refl, sym, ◌∙◌, ap, subst}
 use Rattle.std.specs.Prelude.{is_none, is_some}
-use Rattle.std.specs.List.{find, flat_map, list_all, list_any}
-use Rattle.px_column.specs.Answer.{AnswersBy}
+use Rattle.std.specs.List.{filter_map, find, flat_map, list_all, list_any}
+use Rattle.std.specs.Option.{option_map_or}
+use Rattle.std.specs.Result.{result_ok}
+use Rattle.px_column.specs.Answer.{Answers, AnswersBy, Refuses}
 use Rattle.px_column.specs.Kind.{Kind}
+use Rattle.px_column.specs.Option.{each}
 use Rattle.px_column.specs.Reduction.{reduced_kind}
 use Rattle.px_column.specs.Result.{◌>>=◌}
 use Rattle.px_column.specs.Series.{Series}
@@ -17,7 +20,9 @@ use Rattle.px_expr.specs.Plan.{plan_in, planned_over}
 use Rattle.px_expr.specs.Planned.{Planned, PlannedColumn, is_added, is_reserved, found_by}
 use Rattle.px_expr.specs.Value.{IsValue, IsCause, IsOneOf, causes_on, unfound_refusal}
 use Rattle.px_frame.specs.External.{Frame, alone, look_in, scope_of}
-use Rattle.px_frame.specs.Frame.{look, name_eq}
+use Rattle.px_frame.specs.Cell.{Cell}
+use Rattle.px_frame.specs.Frame.{first_repeat, look, name_eq, unless_repeated}
+use Rattle.px_frame.specs.Spread.{NamedCell, assembled, rows_beside, spread_all}
 use Rattle.px_frame.specs.Schema.{FieldKind, column_field, has_field_name, is_field_name}
 use Rattle.px_plan.specs.Node.{cell_of}
 use Rattle.px_plan.specs.Nodes.{leaf_names}
@@ -30,9 +35,12 @@ use Rattle.px_plan.specs.declared.context.Context.TheVariants.{Default}
 use Rattle.px_steps.specs.DirectLaws.{field-look}
 use Rattle.px_steps.specs.Meets.{MeetsBy, IsFirst}
 use Rattle.px_steps.specs.Causes.{IsCauseOfAny, IsSound, IsStepCause, StepAnswers}
-use Rattle.px_steps.specs.Plain.{first_of, frame_refusals, greatest, named_value, misfit_faults, repeat_refusal}
-use Rattle.px_steps.proofs.Columns.{both}
-use Rattle.px_steps.proofs.Named.{refuses_first, refuses_none}
+use Rattle.px_steps.specs.Plain.{first_of, first_refusal, frame_refusals, greatest, named_value, misfit_faults, refused_by, repeat_refusal, step_faults, step_on, step_refusals, uneven_fault}
+use Rattle.px_steps.specs.Step.{PlainStep, select}
+use Rattle.px_expr.specs.NodeView.{plan_of}
+use Rattle.px_expr.specs.declared.node.PhysExpr.{PhysExpr}
+use Rattle.px_steps.proofs.Columns.{both, made_each}
+use Rattle.px_steps.proofs.Named.{IsFirst_append, refuses_first, refuses_none}
 
 pub nil_left : {A : Type 0} (xs ys : List A) → xs ++ ys ≡ [] → xs ≡ []
 nil_left [] ys h = refl
@@ -200,7 +208,7 @@ lacks_later e xs ys m n (inr (inr h)) = inr (inr (h.0, omega (arith, h.1)))
 -- what one of some expressions lacks that are not refused
 pub any_lacks : (cs : List Series) (e : PxError) (ts : List Tree) → list_all is_built_tree ts ≡ true → flat_map (frame_refusals (alone cs)) ts ≡ [] → IsCauseOfAny e (map (planned_over (map column_field cs)) ts) (alone cs)
     → Lacks e (flat_map (λ t. faults_on t (alone cs)) ts) (greatest (map (λ t. size_on t (alone cs ∷ [])) ts))
-any_lacks cs e [] b h c = absurd c
+any_lacks cs e [] b h c = inl c
 any_lacks cs e (t ∷ ts) b h (inl c) =
     let one = both (is_built_tree t) (list_all is_built_tree ts) b in
     let sound : refusals_of t (map column_field cs) Default ≡ [] = nil_left (frame_refusals (alone cs) t) (flat_map (frame_refusals (alone cs)) ts) h in
@@ -210,3 +218,141 @@ any_lacks cs e (t ∷ ts) b h (inr c) =
     let one = both (is_built_tree t) (list_all is_built_tree ts) b in
     let sound = nil_right (frame_refusals (alone cs) t) (flat_map (frame_refusals (alone cs)) ts) h in
     lacks_later e (faults_on t (alone cs)) _ (size_on t (alone cs ∷ [])) _ (any_lacks cs e ts one.1 sound c)
+
+-- want of memory is a cause of any
+pub memory_lacks : (ps : List Planned) (frame : Frame) → IsCauseOfAny OutOfMemory ps frame
+memory_lacks [] frame = refl
+memory_lacks (p ∷ ps) frame = inr (memory_lacks ps frame)
+
+-- what step after step is a cause or want of memory
+first_cause : (e : PxError) (refusals : List PxError) → IsFirst e refusals → (e ≡ OutOfMemory) ⊎ (first_of refusals ≡ Some e)
+first_cause OutOfMemory refusals h = inl refl
+first_cause (ColumnNotFound n) refusals h = inr h
+first_cause (Duplicate n) refusals h = inr h
+first_cause (InvalidOperation w) refusals h = inr h
+first_cause (ComputeError w) refusals h = inr h
+first_cause OutOfBounds refusals h = inr h
+first_cause ShapeMismatch refusals h = inr h
+first_cause SchemaMismatch refusals h = inr h
+
+-- the first refusal of a step is a cause
+pub refusal_cause : (e : PxError) (s : PlainStep) (frame : Frame) → IsFirst e (step_refusals s frame) → (e ≡ OutOfMemory) ⊎ IsStepCause e s frame
+refusal_cause e s frame h = by (first_cause e (step_refusals s frame) h)
+  where
+    by : (e ≡ OutOfMemory) ⊎ (first_of (step_refusals s frame) ≡ Some e) → (e ≡ OutOfMemory) ⊎ IsStepCause e s frame
+    by (inl m) = inl m
+    by (inr f) = inr (inl f)
+
+pub typing_cause : (e : PxError) (ts : List Tree) (cs : List Series) → IsFirst e (flat_map (frame_refusals (alone cs)) ts) → (e ≡ OutOfMemory) ⊎ IsStepCause e (select ts) (alone cs)
+typing_cause e ts cs h = refusal_cause e (select ts) (alone cs) (IsFirst_append e (flat_map (frame_refusals (alone cs)) ts) (repeat_refusal ts) h)
+
+pub naming_cause : (e : PxError) (ts : List Tree) (cs : List Series) → flat_map (frame_refusals (alone cs)) ts ≡ [] → IsFirst e (repeat_refusal ts) → (e ≡ OutOfMemory) ⊎ IsStepCause e (select ts) (alone cs)
+naming_cause e ts cs none h = refusal_cause e (select ts) (alone cs) (subst (λ (es : List PxError). IsFirst e (es ++ repeat_refusal ts)) (sym none) h)
+
+accepted : (ts : List Tree) (cs : List Series) → flat_map (frame_refusals (alone cs)) ts ≡ [] → repeat_refusal ts ≡ [] → first_refusal (select ts) (alone cs) ≡ None
+accepted ts cs none once = λ i. first_of (none i ++ once i)
+
+-- the nodes' trees are the expressions
+pub each_node : {A : Type 0} (f : Tree → Option A) (scope : Scope) (nodes : List PhysExpr) (ts : List Tree) → map plan_of nodes ≡ map (planned_over scope) ts → each (λ n. f (plan_of n).tree) nodes ≡ each f ts
+each_node f scope [] [] h = refl
+each_node f scope [] (t ∷ ts) h = cc
+each_node f scope (n ∷ nodes) [] h = cc
+each_node f scope (n ∷ nodes) (t ∷ ts) h =
+    let one : plan_of n ≡ planned_over scope t = cc in
+    let others : map plan_of nodes ≡ map (planned_over scope) ts = cc in
+    λ i. option_and_then (λ y. option_map (λ ys. y ∷ ys) (each_node f scope nodes ts others i)) (f (one i).tree)
+
+pub flat_node : (f : Tree → List PxError) (scope : Scope) (nodes : List PhysExpr) (ts : List Tree) → map plan_of nodes ≡ map (planned_over scope) ts → flat_map (λ n. f (plan_of n).tree) nodes ≡ flat_map f ts
+flat_node f scope [] [] h = refl
+flat_node f scope [] (t ∷ ts) h = cc
+flat_node f scope (n ∷ nodes) [] h = cc
+flat_node f scope (n ∷ nodes) (t ∷ ts) h =
+    let one : plan_of n ≡ planned_over scope t = cc in
+    let others : map plan_of nodes ≡ map (planned_over scope) ts = cc in
+    λ i. f (one i).tree ++ flat_node f scope nodes ts others i
+
+-- the same over a schema that is the frame's
+pub typed_over : (scope : Scope) (cs : List Series) (ts : List Tree) → scope ≡ map column_field cs → flat_map (λ t. refusals_of t scope Default) ts ≡ flat_map (frame_refusals (alone cs)) ts
+typed_over scope cs ts e = ap (λ (s : Scope). flat_map (λ t. refusals_of t s Default) ts) e
+
+pub nodes_over : (scope : Scope) (cs : List Series) (ts : List Tree) (nodes : List PhysExpr) → scope ≡ map column_field cs → Some (map (planned_over scope) ts) ≡ Some (map plan_of nodes) → map plan_of nodes ≡ map (planned_over (map column_field cs)) ts
+nodes_over scope cs ts nodes e h = let same : map (planned_over scope) ts ≡ map plan_of nodes = cc in sym same ∙ ap (λ (s : Scope). map (planned_over s) ts) e
+
+-- why the expressions of a select step that is not refused have no values
+pub value_cause : (e : PxError) (ts : List Tree) (cs : List Series) → list_all is_built_tree ts ≡ true → flat_map (frame_refusals (alone cs)) ts ≡ [] → repeat_refusal ts ≡ []
+    → IsCauseOfAny e (map (planned_over (map column_field cs)) ts) (alone cs) → (e ≡ OutOfMemory) ⊎ IsStepCause e (select ts) (alone cs)
+value_cause e ts cs built none once c = by (any_lacks cs e ts built none c)
+  where
+    by : Lacks e (flat_map (λ t. faults_on t (alone cs)) ts) (greatest (map (λ t. size_on t (alone cs ∷ [])) ts)) → (e ≡ OutOfMemory) ⊎ IsStepCause e (select ts) (alone cs)
+    by (inl m) = inl m
+    by (inr (inl o)) = inr (inr (accepted ts cs none once, inl (one_left e (flat_map (λ t. faults_on t (alone cs)) ts ++ uneven_fault (filter_map (named_value (alone cs)) ts)) _ (one_left e (flat_map (λ t. faults_on t (alone cs)) ts) _ o))))
+    by (inr (inr l)) = inr (inr (accepted ts cs none once, inr (l.0, omega (arith, l.1))))
+
+-- the values of expressions, each of which has one
+filtered : {A B : Type 0} (f : A → Option B) (xs : List A) (ys : List B) → each f xs ≡ Some ys → filter_map f xs ≡ ys
+filtered f [] ys h = cc
+filtered {A} {B} f (x ∷ xs) ys h = by (f x) (each f xs) (filtered f xs) refl h
+  where
+    by : (o : Option B) (rest : Option (List B)) → ((zs : List B) → rest ≡ Some zs → filter_map f xs ≡ zs) → f x ≡ o → option_and_then (λ y. option_map (λ ys. y ∷ ys) rest) o ≡ Some ys → filter_map f (x ∷ xs) ≡ ys
+    by None rest more e g = cc
+    by (Some y) None more e g = cc
+    by (Some y) (Some zs) more e g = let same : y ∷ zs ≡ ys = cc in rw (e, more zs refl) same
+
+name_kept : (frame : Frame) (t : Tree) (c : NamedCell) → named_value frame t ≡ Some c → c.name ≡ name_of t
+name_kept frame t c h = by (value_on t frame) (kind_in t (scope_of frame)) h
+  where
+    by : (v : Option Cell) (k : Option Kind) → option_and_then (λ x. option_map (λ j. record { name = name_of t; kind = j; cell = x }) k) v ≡ Some c → c.name ≡ name_of t
+    by None k h = cc
+    by (Some v) None h = cc
+    by (Some v) (Some k) h = let same : record { name = name_of t; kind = k; cell = v } ≡ c = cc in ap (λ (x : NamedCell). x.name) (sym same)
+
+names_kept : (frame : Frame) (ts : List Tree) (cells : List NamedCell) → each (named_value frame) ts ≡ Some cells → map (λ c. c.name) cells ≡ map name_of ts
+names_kept frame ts cells h = made_each (named_value frame) (λ c. c.name) name_of ts cells (name_kept frame) h
+
+-- nothing stands twice
+once_none : (o : Option (List ℕ)) → option_map_or (λ n. Duplicate n ∷ []) o [] ≡ [] → o ≡ None
+once_none None h = refl
+once_none (Some n) h = cc
+
+-- memory was wanting, or a refusal that is told
+refuses_or : {Y : Type 0} (e : PxError) (r : Result Y PxError) → Refuses e r → (e ≡ OutOfMemory) ⊎ (r ≡ Err e)
+refuses_or OutOfMemory r h = inl refl
+refuses_or (ColumnNotFound n) r h = inr h
+refuses_or (Duplicate n) r h = inr h
+refuses_or (InvalidOperation w) r h = inr h
+refuses_or (ComputeError w) r h = inr h
+refuses_or OutOfBounds r h = inr h
+refuses_or ShapeMismatch r h = inr h
+refuses_or SchemaMismatch r h = inr h
+
+-- the frame of the values, or the lists that are not as long
+pub selected : (ts : List Tree) (cs : List Series) (cells : List NamedCell) (r : Result (List Series) PxError) → flat_map (frame_refusals (alone cs)) ts ≡ [] → repeat_refusal ts ≡ []
+    → each (named_value (alone cs)) ts ≡ Some cells → flat_map (λ t. faults_on t (alone cs)) ts ≡ [] → Answers r (assembled cells) → StepAnswers r (select ts) cs
+selected ts cs cells r none once values sound a = by r a
+  where
+    distinct : first_repeat [] (map (λ c. c.name) cells) ≡ None
+    distinct = ap (first_repeat []) (names_kept (alone cs) ts cells values) ∙ once_none (first_repeat [] (map name_of ts)) once
+
+    whole : assembled cells ≡ spread_all (rows_beside (map (λ c. c.cell) cells)) cells
+    whole = ap (λ o. unless_repeated o (spread_all (rows_beside (map (λ c. c.cell) cells)) cells)) distinct
+
+    uneven : (q : Result (List Series) PxError) → assembled cells ≡ q → uneven_fault (filter_map (named_value (alone cs)) ts) ≡ refused_by q
+    uneven q e = ap uneven_fault (filtered (named_value (alone cs)) ts cells values) ∙ ap refused_by (sym whole ∙ e)
+
+    made : (f : List Series) → assembled cells ≡ Ok f → step_on (select ts) (alone cs) ≡ Some (alone f)
+    made f e =
+        ap (λ o. option_map (λ columns. record (alone cs) { columns = columns }) (option_and_then (λ xs. result_ok (assembled xs)) o)) values
+        ∙ ap (λ q. option_map (λ columns. record (alone cs) { columns = columns }) (result_ok q)) e
+
+    fault : (e : PxError) → (e ≡ OutOfMemory) ⊎ (assembled cells ≡ Err e) → (e ≡ OutOfMemory) ⊎ IsStepCause e (select ts) (alone cs)
+    fault e (inl m) = inl m
+    fault e (inr f) =
+        inr (inr (
+          accepted ts cs none once,
+          inl (one_left e (flat_map (λ t. faults_on t (alone cs)) ts ++ uneven_fault (filter_map (named_value (alone cs)) ts)) (misfit_faults (alone cs) ts)
+              (one_right e (flat_map (λ t. faults_on t (alone cs)) ts) _ (subst (IsOneOf e) (sym (uneven (Err e) f)) (inl refl)))),
+        ))
+
+    by : (q : Result (List Series) PxError) → Answers q (assembled cells) → StepAnswers q (select ts) cs
+    by (Ok f) h = (record { accepted = accepted ts cs none once; sound = λ i. (sound i ++ uneven (Ok f) h i) ++ no_misfits cs ts i }, made f h)
+    by (Err e) h = fault e (refuses_or e (assembled cells) h)

@@ -42,7 +42,7 @@ abbrev pub StepAnswers : Result (List Series) PxError → PlainStep → List Ser
 StepAnswers (Ok made) s frame = IsSound s (alone frame) × (step_on s (alone frame) ≡ Some (alone made))
 StepAnswers (Err e) s frame = (e ≡ OutOfMemory) ⊎ IsStepCause e s (alone frame)
 
--- why one of some planned expressions has no value
+-- why some planned expressions have no values: memory was wanting, or one of them has none for this cause
 abbrev pub IsCauseOfAny : PxError → List Planned → Frame → Type 0
-IsCauseOfAny e [] frame = ⊥
+IsCauseOfAny e [] frame = e ≡ OutOfMemory
 IsCauseOfAny e (p ∷ ps) frame = IsCause e p frame ⊎ IsCauseOfAny e ps frame
