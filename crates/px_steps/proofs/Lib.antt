@@ -5,6 +5,7 @@ pub mod Separated
 pub mod Named
 pub mod Selected
 pub mod CellLoop
+pub mod Grouped
 pub mod Columns
 pub mod KeyLoop
 pub mod DocumentSteps

@@ -224,8 +224,8 @@ pub memory_lacks : (ps : List Planned) (frame : Frame) → IsCauseOfAny OutOfMem
 memory_lacks [] frame = refl
 memory_lacks (p ∷ ps) frame = inr (memory_lacks ps frame)
 
--- what step after step is a cause or want of memory
-first_cause : (e : PxError) (refusals : List PxError) → IsFirst e refusals → (e ≡ OutOfMemory) ⊎ (first_of refusals ≡ Some e)
+-- a refusal that is told is the first one, or memory was wanting
+pub first_cause : (e : PxError) (refusals : List PxError) → IsFirst e refusals → (e ≡ OutOfMemory) ⊎ (first_of refusals ≡ Some e)
 first_cause OutOfMemory refusals h = inl refl
 first_cause (ColumnNotFound n) refusals h = inr h
 first_cause (Duplicate n) refusals h = inr h

@@ -7,7 +7,7 @@ use Rattle.px_column.specs.declared.error.ComputeWhy.TheVariants.{TooLong}
 use Rattle.px_expr.specs.Planned.{Planned}
 use Rattle.px_expr.specs.Value.{IsCause, IsOneOf}
 use Rattle.px_frame.specs.External.{Frame, alone}
-use Rattle.px_steps.specs.Plain.{first_refusal, step_faults, step_on, step_size}
+use Rattle.px_steps.specs.Plain.{first_refusal, plain_on, step_faults, step_on, step_size}
 use Rattle.px_steps.specs.Step.{PlainStep}
 
 -- a step that is not refused and has no fault
@@ -41,6 +41,11 @@ IsCauseIn e steps frame = (e ≡ OutOfMemory) ⊎ StandsIn e steps frame
 abbrev pub StepAnswers : Result (List Series) PxError → PlainStep → List Series → Type 0
 StepAnswers (Ok made) s frame = IsSound s (alone frame) × (step_on s (alone frame) ≡ Some (alone made))
 StepAnswers (Err e) s frame = (e ≡ OutOfMemory) ⊎ IsStepCause e s (alone frame)
+
+-- what steps answer: the frame that they make, where they are sound; or a cause
+abbrev pub StepsAnswer : Result (List Series) PxError → List PlainStep → List Series → Type 0
+StepsAnswer (Ok made) steps frame = AreSound steps (alone frame) × (plain_on steps (alone frame) ≡ Some (alone made))
+StepsAnswer (Err e) steps frame = IsCauseIn e steps (alone frame)
 
 -- why some planned expressions have no values: memory was wanting, or one of them has none for this cause
 abbrev pub IsCauseOfAny : PxError → List Planned → Frame → Type 0
