@@ -38,8 +38,8 @@ impl Model for DataFrame {
     ghost invariant = { λ f. (f.names.keys ≡ names_of f.columns.items) × IsFrame f.columns.items };
 }
 
-/// One more name, unless it is there already.
-pub(crate) fn add_name(alloc: Global, names: &mut IndexSet<Name>, name: &Name) -> Px<()>
+/// One more name, unless it is there already, which is a `Duplicate`.
+pub fn add_name(alloc: Global, names: &mut IndexSet<Name>, name: &Name) -> Px<()>
     ensures answer { Answers result (if list_any (name_eq name.now) names.old.keys then Err (Duplicate name.now) else Ok tt) }
     ensures added { OnOk result (names.new.keys ≡ names.old.keys ++ name.now ∷ []) }
 {

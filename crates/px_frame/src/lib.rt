@@ -12,7 +12,7 @@ mod tests;
 
 pub use aggregate::{agg_sum, key_rows};
 pub use cell::{Cell, UnitColumn, assemble, spread};
-pub use frame::DataFrame;
+pub use frame::{DataFrame, add_name};
 pub use grouping::group_by;
 pub use groups::{GroupPositions, GroupsIndicator, GroupsType, IdxVec};
 pub use schema::{Field, Schema, SchemaRef};

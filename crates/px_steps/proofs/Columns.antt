@@ -62,7 +62,7 @@ heights_of_keys ps [] = refl
 heights_of_keys ps (s ∷ by) = λ i. has_length (length ps) (key_values ps s) (length-map ps (λ p. slot_at s.slots (first_row p))) i && heights_of_keys ps by i
 
 -- what is seen of each made column is what is seen of its expression
-made_each : {V : Type 0} (f : Tree → Option Series) (seen : Series → V) (of : Tree → V) (ts : List Tree) (made : List Series) → ((t : Tree) (c : Series) → f t ≡ Some c → seen c ≡ of t) → each f ts ≡ Some made
+pub made_each : {S V : Type 0} (f : Tree → Option S) (seen : S → V) (of : Tree → V) (ts : List Tree) (made : List S) → ((t : Tree) (c : S) → f t ≡ Some c → seen c ≡ of t) → each f ts ≡ Some made
     → map seen made ≡ map of ts
 made_each f seen of [] made h e = let none : made ≡ [] = cc in ap (map seen) none
 made_each f seen of (t ∷ ts) made h e =

@@ -6,7 +6,7 @@ use Rattle.serde_json.specs.Data.{Data}
 use Rattle.serde_json.specs.Find.{as_null, as_str}
 use Rattle.px_column.specs.declared.method.GroupByMethod.TheVariants.{Sum}
 use Rattle.px_plan.specs.Tree.{Tree, column, agg, len}
-use Rattle.px_steps.specs.Built.{is_built, is_built_key, is_built_agg}
+use Rattle.px_steps.specs.Built.{is_built_group, is_built_key, is_built_agg}
 use Rattle.px_steps.specs.BuiltDocument.{is_built_document}
 use Rattle.px_steps.specs.DocumentText.{IsDocumentText}
 use Rattle.px_steps.specs.Document.{Doc, document_of, document_of_parts, column_of, step_of, steps_of, group_of_parts, key_of, agg_of, is_len, reduction_of, reduction_of_parts, is_sum}
@@ -48,7 +48,7 @@ aggregation_built d t e = by (is_len d) e
     by true f = let same : len ≡ t = cc in ap is_built_agg (sym same)
     by false f = let parts = and_then_some (field (codes "agg") d >>= items) reduction_of_parts t f in reduction_built t parts.0 parts.2
 
-group_built : (s : PlainStep) (parts : List Data) → group_of_parts parts ≡ Some s → is_built s ≡ true
+group_built : (s : PlainStep) (parts : List Data) → group_of_parts parts ≡ Some s → is_built_group s ≡ true
 group_built s [] e = cc
 group_built s (k ∷ []) e = cc
 group_built s (k ∷ a ∷ []) e = cc
@@ -58,17 +58,17 @@ group_built s (k ∷ a ∷ c ∷ []) e =
     let made = map_some (as_null c) (λ _. group keys.0 aggs.0 None) s aggs.2 in
     let ks = and_then_some (items k) (each key_of) keys.0 keys.1 in
     let gs = and_then_some (items a) (each agg_of) aggs.0 aggs.1 in
-    ap is_built (sym made.2) ∙ (λ i. each_all key_of is_built_key ks.0 keys.0 key_built ks.2 i && each_all agg_of is_built_agg gs.0 aggs.0 aggregation_built gs.2 i)
+    ap is_built_group (sym made.2) ∙ (λ i. each_all key_of is_built_key ks.0 keys.0 key_built ks.2 i && each_all agg_of is_built_agg gs.0 aggs.0 aggregation_built gs.2 i)
 group_built s (k ∷ a ∷ c ∷ d ∷ ds) e = cc
 
-step_built : (d : Data) (s : PlainStep) → step_of d ≡ Some s → is_built s ≡ true
+step_built : (d : Data) (s : PlainStep) → step_of d ≡ Some s → is_built_group s ≡ true
 step_built d s e = let parts = and_then_some (field (codes "group") d >>= fields (codes "keys" ∷ codes "aggs" ∷ codes "chunks" ∷ [])) group_of_parts s e in group_built s parts.0 parts.2
 
-steps_built : (ds : List Data) (steps : List PlainStep) → steps_of ds ≡ Some steps → list_all is_built steps ≡ true
+steps_built : (ds : List Data) (steps : List PlainStep) → steps_of ds ≡ Some steps → list_all is_built_group steps ≡ true
 steps_built ds steps e = by (length ds == 1) e
   where
-    by : (b : Bool) → cond b (each step_of ds) None ≡ Some steps → list_all is_built steps ≡ true
-    by true f = each_all step_of is_built ds steps step_built f
+    by : (b : Bool) → cond b (each step_of ds) None ≡ Some steps → list_all is_built_group steps ≡ true
+    by true f = each_all step_of is_built_group ds steps step_built f
     by false f = cc
 
 -- exactly one step
@@ -80,7 +80,7 @@ steps_one (d ∷ []) steps e =
     ap length (sym same)
 steps_one (d ∷ f ∷ ds) steps e = let no : (length (d ∷ f ∷ ds) == 1) ≡ false = grind (arith, nat_tests) in cc
 
-parts_built : (doc : Doc) (parts : List Data) → document_of_parts parts ≡ Some doc → (list_all is_built doc.steps ≡ true) × (length doc.steps ≡ 1)
+parts_built : (doc : Doc) (parts : List Data) → document_of_parts parts ≡ Some doc → (list_all is_built_group doc.steps ≡ true) × (length doc.steps ≡ 1)
 parts_built doc [] e = cc
 parts_built doc (c ∷ []) e = cc
 parts_built doc (c ∷ s ∷ []) e =
@@ -88,21 +88,21 @@ parts_built doc (c ∷ s ∷ []) e =
     let steps = and_then_some (items s >>= steps_of) (λ ss. Some (record { columns = columns.0; steps = ss })) doc columns.2 in
     let ds = and_then_some (items s) steps_of steps.0 steps.1 in
     let made : record { columns = columns.0; steps = steps.0 } ≡ doc = cc (steps.2) in
-    (ap (λ (d : Doc). list_all is_built d.steps) (sym made) ∙ steps_built ds.0 steps.0 ds.2, ap (λ (d : Doc). length d.steps) (sym made) ∙ steps_one ds.0 steps.0 ds.2)
+    (ap (λ (d : Doc). list_all is_built_group d.steps) (sym made) ∙ steps_built ds.0 steps.0 ds.2, ap (λ (d : Doc). length d.steps) (sym made) ∙ steps_one ds.0 steps.0 ds.2)
 parts_built doc (c ∷ s ∷ d ∷ ds) e = cc
 
-document_built : (d : Data) (doc : Doc) → document_of d ≡ Some doc → (list_all is_built doc.steps ≡ true) × (length doc.steps ≡ 1)
+document_built : (d : Data) (doc : Doc) → document_of d ≡ Some doc → (list_all is_built_group doc.steps ≡ true) × (length doc.steps ≡ 1)
 document_built d doc e = let parts = and_then_some (fields (codes "columns" ∷ codes "steps" ∷ []) d) document_of_parts doc e in parts_built doc parts.0 parts.2
 
 is_one : (n : ℕ) → (n == 1) ≡ true → n ≡ 1
 is_one n h = grind (arith, nat_tests)
 
 -- a document has one step, of a form that is built
-pub text_built : (bytes : List ℕ) (doc : Doc) → IsDocumentText bytes doc → (list_all is_built doc.steps ≡ true) × (length doc.steps ≡ 1)
-text_built bytes doc t = let b = both (length doc.steps == 1) (list_all is_built doc.steps) t.built in (b.1, is_one (length doc.steps) b.0)
+pub text_built : (bytes : List ℕ) (doc : Doc) → IsDocumentText bytes doc → (list_all is_built_group doc.steps ≡ true) × (length doc.steps ≡ 1)
+text_built bytes doc t = let b = both (length doc.steps == 1) (list_all is_built_group doc.steps) t.built in (b.1, is_one (length doc.steps) b.0)
 
 -- what is read has one step, of a form that is built
 pub read_built : (d : Data) (doc : Doc) → document_of d ≡ Some doc → is_built_document doc ≡ true
 read_built d doc e =
     let b = document_built d doc e in
-    (λ i. (b.1 i == 1) && list_all is_built doc.steps) ∙ b.0
+    (λ i. (b.1 i == 1) && list_all is_built_group doc.steps) ∙ b.0

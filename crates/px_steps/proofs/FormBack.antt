@@ -13,7 +13,8 @@ use Rattle.px_column.specs.declared.method.GroupByMethod.{GroupByMethod}
 use Rattle.px_column.specs.declared.method.GroupByMethod.TheVariants.{Min, Max, Sum, First, Last, NUnique, Count, Implode}
 use Rattle.px_plan.specs.Tree.{Tree, column, literal, alias, binary, ternary, cast, function, filter, slice, gather, sort, sort_by, agg, len, window, series, one_tree, no_trees, trees_of}
 use Rattle.px_plan.specs.declared.function.FunctionExpr.TheVariants.{Explode}
-use Rattle.px_steps.specs.Built.{is_built, is_built_key, is_built_agg, is_sum}
+use Rattle.px_expr.specs.Built.{is_sum}
+use Rattle.px_steps.specs.Built.{is_built_group, is_built_key, is_built_agg}
 use Rattle.px_steps.specs.Document.{Doc, kind_named, key_of, agg_of, is_len, reduction_of, reduction_of_parts, column_of, document_of, document_of_parts, group_of_parts, step_of, steps_of}
 use Rattle.px_steps.specs.Document as document
 use Rattle.px_steps.specs.ExprForm.{expr_of, expr_within, expr_form, reduction_named, literal_parts, range_parts, alias_parts, binary_parts, ternary_parts, cast_parts, function_parts, cast_named, flags_of, mapping_named, is_text, filter_parts, slice_parts, gather_parts, sort_parts, sort_by_parts, reduction_parts, window_parts, order_of}
@@ -342,7 +343,7 @@ key_told d t h k = key_within (depth d) d t k h
 agg_told : (d : Data) (t : Tree) → expr_of d ≡ Some t → is_built_agg t ≡ true → agg_of d ≡ Some t
 agg_told d t h a = agg_within (depth d) d t h a
 
-group_back : (ds : List Data) (s : PlainStep) → group_parts ds ≡ Some s → is_built s ≡ true → group_of_parts ds ≡ Some s
+group_back : (ds : List Data) (s : PlainStep) → group_parts ds ≡ Some s → is_built_group s ≡ true → group_of_parts ds ≡ Some s
 group_back [] s h b = cc
 group_back (k ∷ []) s h b = cc
 group_back (k ∷ a ∷ []) s h b = cc
@@ -354,9 +355,9 @@ group_back (k ∷ a ∷ c ∷ []) s h b =
     by chunks.0 chunks.1 keys.0 keys.1 aggs.0 aggs.1 same
   where
     by : (o : Option (List ℕ)) → chunks_of c ≡ Some o → (ks : List Tree) → (items k >>= each expr_of) ≡ Some ks → (gs : List Tree) → (items a >>= each expr_of) ≡ Some gs → group ks gs o ≡ s → group_of_parts (k ∷ a ∷ c ∷ []) ≡ Some s
-    by (Some ns) e ks p gs q same = let no : false ≡ true = ap is_built same ∙ b in cc
+    by (Some ns) e ks p gs q same = let no : false ≡ true = ap is_built_group same ∙ b in cc
     by None e ks p gs q same =
-        let built = both (list_all is_built_key ks) (list_all is_built_agg gs) (ap is_built same ∙ b) in
+        let built = both (list_all is_built_key ks) (list_all is_built_agg gs) (ap is_built_group same ∙ b) in
         let kd = bound (items k) (each expr_of) ks p in
         let gd = bound (items a) (each expr_of) gs q in
         let keys : (items k >>= each key_of) ≡ Some ks = ap (λ o. o >>= each key_of) kd.1 ∙ each_back expr_of key_of is_built_key key_told kd.0 ks kd.2 built.0 in
@@ -364,15 +365,15 @@ group_back (k ∷ a ∷ c ∷ []) s h b =
         (λ i. keys i >>= λ x. aggs i >>= λ y. option_map (λ _. group x y None) (as_null c)) ∙ given (as_null c) (group ks gs None) (chunks_none c e) ∙ ap Some same
 group_back (k ∷ a ∷ c ∷ d ∷ ds) s h b = cc
 
-step_back : (d : Data) (s : PlainStep) → any_step_of d ≡ Some s → is_built s ≡ true → step_of d ≡ Some s
+step_back : (d : Data) (s : PlainStep) → any_step_of d ≡ Some s → is_built_group s ≡ true → step_of d ≡ Some s
 step_back d s h b =
     let third = other_step (field (codes "filter") d >>= expr_of) step.filter _ (λ e. refl) (other_step (field (codes "select") d >>= items >>= each expr_of) step.select _ (λ e. refl) h) in
     let parts = bound (field (codes "group") d >>= fields (codes "keys" ∷ codes "aggs" ∷ codes "chunks" ∷ [])) group_parts s third in
     ap (λ o. o >>= group_of_parts) parts.1 ∙ group_back parts.0 s parts.2 b
   where
-    other_step : {A : Type 0} (o : Option A) (f : A → PlainStep) (rest : Option PlainStep) → ((a : A) → is_built (f a) ≡ false) → option_or (option_map f o) rest ≡ Some s → rest ≡ Some s
+    other_step : {A : Type 0} (o : Option A) (f : A → PlainStep) (rest : Option PlainStep) → ((a : A) → is_built_group (f a) ≡ false) → option_or (option_map f o) rest ≡ Some s → rest ≡ Some s
     other_step None f rest n g = g
-    other_step (Some a) f rest n g = let same : f a ≡ s = cc in let no : false ≡ true = sym (n a) ∙ ap is_built same ∙ b in cc
+    other_step (Some a) f rest n g = let same : f a ≡ s = cc in let no : false ≡ true = sym (n a) ∙ ap is_built_group same ∙ b in cc
 
 -- as many are read as there are
 each_length : {B : Type 0} (f : Data → Option B) (ds : List Data) (bs : List B) → each f ds ≡ Some bs → length bs ≡ length ds
@@ -382,14 +383,14 @@ each_length f (d ∷ ds) bs h =
     let rest = mapped (each f ds) (λ ys. first.0 ∷ ys) bs first.2 in
     ap length (sym rest.2) ∙ ap suc (each_length f ds rest.0 rest.1)
 
-steps_back : (ds : List Data) (steps : List PlainStep) → any_steps_of ds ≡ Some steps → (length steps == 1) ≡ true → list_all is_built steps ≡ true → steps_of ds ≡ Some steps
+steps_back : (ds : List Data) (steps : List PlainStep) → any_steps_of ds ≡ Some steps → (length steps == 1) ≡ true → list_all is_built_group steps ≡ true → steps_of ds ≡ Some steps
 steps_back ds steps h one b = by (nat_le (length ds) 64) h
   where
     by : (c : Bool) → cond c (each any_step_of ds) None ≡ Some steps → steps_of ds ≡ Some steps
     by false g = cc
     by true g =
         let count : (length ds == 1) ≡ true = ap (λ n. n == 1) (sym (each_length any_step_of ds steps g)) ∙ one in
-        ap (λ c. cond c (each step_of ds) None) count ∙ each_back any_step_of step_of is_built step_back ds steps g b
+        ap (λ c. cond c (each step_of ds) None) count ∙ each_back any_step_of step_of is_built_group step_back ds steps g b
 
 parts_back : (ds : List Data) (doc : Doc) → any_document_parts ds ≡ Some doc → is_built_document doc ≡ true → document_of_parts ds ≡ Some doc
 parts_back [] doc h b = cc
@@ -398,7 +399,7 @@ parts_back (c ∷ s ∷ []) doc h b =
     let columns = bound (items c >>= each column_of) _ doc h in
     let steps = bound (items s >>= any_steps_of) _ doc columns.2 in
     let same : record { columns = columns.0; steps = steps.0 } ≡ doc = cc (steps.2) in
-    let built = both (length steps.0 == 1) (list_all is_built steps.0) (ap is_built_document same ∙ b) in
+    let built = both (length steps.0 == 1) (list_all is_built_group steps.0) (ap is_built_document same ∙ b) in
     let sd = bound (items s) any_steps_of steps.0 steps.1 in
     let read : (items s >>= steps_of) ≡ Some steps.0 = ap (λ o. o >>= steps_of) sd.1 ∙ steps_back sd.0 steps.0 sd.2 built.0 built.1 in
     (λ i. columns.1 i >>= λ x. read i >>= λ y. Some (record { columns = x; steps = y })) ∙ ap Some same

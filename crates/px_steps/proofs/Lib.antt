@@ -3,6 +3,9 @@ pub mod HasRead
 pub mod Taking
 pub mod Separated
 pub mod Named
+pub mod Selected
+pub mod CellLoop
+pub mod Grouped
 pub mod Columns
 pub mod KeyLoop
 pub mod DocumentSteps

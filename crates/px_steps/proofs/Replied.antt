@@ -1,84 +1,49 @@
--- What is written for a document of one step.
-use Rattle.std.proofs.Common.{◌≡◌, ℕ, true, List, [], ◌∷◌, Option, Some, None, option_map, option_and_then, length, refl, ◌∙◌, ap, arith, Bool, false, ◌&&◌}
+-- What is written for a document.
+use Rattle.std.proofs.Common.{◌≡◌, ℕ, ◌+◌, true, List, [], ◌∷◌, Some, length, refl, sym, ◌∙◌, ap, subst, Bool, false, ◌&&◌}
 use Rattle.std.specs.List.{list_all}
 use Rattle.std.specs.Prelude.{IfOk, OnOk, Result, Ok, Err}
-use Rattle.std.specs.Option.{option_map_or, option_or}
-use Rattle.px_column.specs.Option.{◌>>=◌}
 use Rattle.px_column.specs.Series.{Series}
 use Rattle.px_column.specs.declared.error.PxError.{PxError}
-use Rattle.px_column.specs.declared.error.PxError.TheVariants.{ColumnNotFound, Duplicate, InvalidOperation, ComputeError, OutOfBounds, ShapeMismatch, SchemaMismatch, OutOfMemory}
-use Rattle.px_frame.specs.External.{Frame, alone}
-use Rattle.px_frame.specs.Frame.{IsFrame, height_of}
-use Rattle.px_steps.specs.Built.{is_built}
-use Rattle.px_steps.specs.Direct as direct
-use Rattle.px_steps.specs.DirectLaws.{refusal_same, columns_same}
+use Rattle.px_column.specs.declared.error.PxError.TheVariants.{OutOfMemory}
+use Rattle.px_frame.specs.External.{alone}
+use Rattle.px_frame.specs.Frame.{height_of}
+use Rattle.px_steps.specs.Built.{is_built, is_built_group}
+use Rattle.px_steps.specs.Causes.{AreSound, IsCauseIn}
 use Rattle.px_steps.specs.Document.{Doc}
 use Rattle.px_steps.specs.Label.{line_of}
-use Rattle.px_steps.specs.Meets.{IsFirst}
-use Rattle.px_steps.specs.Plain as plain
-use Rattle.px_steps.specs.Plain.{first_of}
+use Rattle.px_steps.specs.Plain.{groupings_of, plain_on}
 use Rattle.px_steps.specs.Reply.{IsDocument, IsResult, IsRefusal}
-use Rattle.px_steps.specs.Step.{PlainStep}
+use Rattle.px_steps.specs.Step.{PlainStep, group}
 use Rattle.px_steps.specs.Text.{text_of}
+use Rattle.px_steps.proofs.Columns.{both}
 use Rattle.px_steps.proofs.DocumentSteps.{text_built}
 
-one_built : (s : PlainStep) → list_all is_built (s ∷ []) ≡ true → is_built s ≡ true
-one_built s h = by (is_built s) h
-  where
-    by : (b : Bool) → (b && true) ≡ true → b ≡ true
-    by true h = refl
-    by false h = cc
+-- a group step that is read is run
+group_built : (s : PlainStep) → is_built_group s ≡ true → is_built s ≡ true
+group_built (group keys aggs chunks) h = h
+group_built _ h = cc
 
--- the first refusal of one step
-first_same : (s : PlainStep) (frame : List Series) → is_built s ≡ true → plain.first_refusal_of (s ∷ []) (alone frame) ≡ first_of (direct.refusals_on (s ∷ []) frame)
-first_same s frame b =
-    ap (λ o. option_or o (option_map_or (λ (g : Frame). None) (plain.step_on s (alone frame)) None)) (refusal_same s frame b)
-    ∙ by (direct.step_refusals s frame) (plain.step_on s (alone frame)) (direct.step_on s frame)
-  where
-    by : (es : List PxError) (next : Option Frame) (made : Option (List Series))
-        → option_or (first_of es) (option_map_or (λ (g : Frame). None) next None) ≡ first_of (direct.first_of_two es (option_map_or (λ (g : List Series). []) made []))
-    by (e ∷ es) next made = refl
-    by [] None None = refl
-    by [] None (Some f) = refl
-    by [] (Some g) None = refl
-    by [] (Some g) (Some f) = refl
+groups_built : (steps : List PlainStep) → list_all is_built_group steps ≡ true → list_all is_built steps ≡ true
+groups_built [] h = refl
+groups_built (s ∷ steps) h = let b = both (is_built_group s) (list_all is_built_group steps) h in λ i. group_built s b.0 i && groups_built steps b.1 i
 
--- the frame that one step makes
-plain_same : (s : PlainStep) (frame : List Series) → is_built s ≡ true → IsFrame frame → plain.plain_on (s ∷ []) (alone frame) ≡ option_map alone (direct.plain_on (s ∷ []) frame)
-plain_same s frame b is =
-    ap (λ o. option_map (λ columns. record (alone frame) { columns = columns }) o >>= plain.plain_on []) (columns_same s frame b is) ∙ by (direct.step_on s frame)
-  where
-    by : (o : Option (List Series)) → (option_map (λ columns. record (alone frame) { columns = columns }) o >>= plain.plain_on []) ≡ option_map alone (option_and_then (direct.plain_on []) o)
-    by None = refl
-    by (Some columns) = refl
+-- the steps of a document can be run
+pub document_built : (bytes : List ℕ) (doc : Doc) → IsDocument bytes doc → list_all is_built doc.steps ≡ true
+document_built bytes doc is = groups_built doc.steps (text_built bytes doc is.says).0
 
--- both, for the steps of a document
-steps_same : (steps : List PlainStep) (frame : List Series) → (list_all is_built steps ≡ true) × (length steps ≡ 1) → IsFrame frame
-    → (plain.first_refusal_of steps (alone frame) ≡ first_of (direct.refusals_on steps frame)) × (plain.plain_on steps (alone frame) ≡ option_map alone (direct.plain_on steps frame))
-steps_same [] frame h is = cc
-steps_same (s ∷ []) frame h is = (first_same s frame (one_built s h.0), plain_same s frame (one_built s h.0) is)
-steps_same (s ∷ t ∷ steps) frame h is = absurd (omega (arith, h.1))
+-- bytes say at most one document
+pub one_document : (bytes : List ℕ) (doc other : Doc) → IsDocument bytes doc → IsDocument bytes other → doc ≡ other
+one_document bytes doc other is also = let a = is.says.says in let b = also.says.says in cc
 
-pub is_result : (bytes text : List ℕ) (doc : Doc) (made : List Series) → IsDocument bytes doc → direct.refusals_on doc.steps doc.columns ≡ [] → direct.plain_on doc.steps doc.columns ≡ Some made → text ≡ text_of made (height_of made) → IsResult bytes text
-is_result bytes text doc made is none plain written =
-    let same = steps_same doc.steps doc.columns (text_built bytes doc is.says) is.frame in
-    record { doc = doc; document = is; valid = same.0 ∙ ap first_of none; made = made; plain = same.1 ∙ ap (option_map alone) plain; written = written }
+pub is_result : (bytes text : List ℕ) (doc : Doc) (made : List Series) → IsDocument bytes doc → AreSound doc.steps (alone doc.columns) → plain_on doc.steps (alone doc.columns) ≡ Some (alone made) → text ≡ text_of made (height_of made) → IsResult bytes text
+is_result bytes text doc made is sound plain written = record { doc = doc; document = is; sound = sound; made = made; plain = plain; written = written }
 
-pub is_refusal : (bytes text : List ℕ) (doc : Doc) (e : PxError) → IsDocument bytes doc → first_of (direct.refusals_on doc.steps doc.columns) ≡ Some e → text ≡ line_of e → IsRefusal bytes text
-is_refusal bytes text doc e is first written =
-    let same = steps_same doc.steps doc.columns (text_built bytes doc is.says) is.frame in
-    record { doc = doc; document = is; fault = e; first = same.0 ∙ first; written = written }
+pub is_refusal : (bytes text : List ℕ) (doc : Doc) (e : PxError) → IsDocument bytes doc → IsCauseIn e doc.steps (alone doc.columns) → (e ≡ OutOfMemory → ⊥) → text ≡ line_of e → IsRefusal bytes text
+is_refusal bytes text doc e is cause told written = record { doc = doc; document = is; fault = e; cause = cause; told = told; written = written }
 
--- a refusal other than want of memory is the first
-pub first_told : (e : PxError) (refusals : List PxError) → IsFirst e refusals → (e ≡ OutOfMemory → ⊥) → first_of refusals ≡ Some e
-first_told OutOfMemory refusals h n = absurd (n refl)
-first_told (ColumnNotFound m) refusals h n = h
-first_told (Duplicate m) refusals h n = h
-first_told (InvalidOperation w) refusals h n = h
-first_told (ComputeError w) refusals h n = h
-first_told OutOfBounds refusals h n = h
-first_told ShapeMismatch refusals h n = h
-first_told SchemaMismatch refusals h n = h
+-- the groupings of one reading are those of each
+pub grouped_by : (bytes : List ℕ) (doc : Doc) (old new : ℕ) → IsDocument bytes doc → new ≡ old + groupings_of doc.steps → (other : Doc) → IsDocument bytes other → new ≡ old + groupings_of other.steps
+grouped_by bytes doc old new is h other also = let same = one_document bytes doc other is also in h ∙ ap (λ (d : Doc). old + groupings_of d.steps) same
 
 -- what holds on Ok beside what holds of the value
 pub with_cause : {A E : Type 0} (r : Result A E) (P Q : A → Type 0) (C : Type 0) → IfOk r P → OnOk r C → ((a : A) → P a → C → Q a) → IfOk r Q

@@ -1,17 +1,35 @@
 -- One more step run.
-use Rattle.std.proofs.Common.{◌≡◌, ℕ, ◌+◌, ◌<◌, true, List, [], ◌∷◌, Option, Some, length, drop, map, get_or, option_and_then, sym, ◌∙◌, ap, subst}
+use Rattle.std.proofs.Common.{◌≡◌, ◌⊎◌, inl, inr, ℕ, ◌+◌, ◌<◌, ◌^◌, ◌≤◌, true, List, [], ◌∷◌, Option, Some, None, Result, Ok, Err, length, drop, take, ◌-◌, map, get_or, option_and_then, sym, ◌∙◌, ap, subst, arith, refl}
 use Rattle.std.specs.List.{list_all}
-use Rattle.std.specs.Option.{option_map_or}
-use Rattle.std.proofs.lemmas.List.{at_drop_more}
+use Rattle.std.specs.Prelude.{IfOk, IfErr, OnOk}
+use Rattle.std.proofs.lemmas.List.{at_drop_all, at_drop_more, take_all}
+use Rattle.std.proofs.lemmas.List.Sums.{sum_by-cons}
 use Rattle.px_column.specs.Series.{Series}
 use Rattle.px_column.specs.declared.error.PxError.{PxError}
-use Rattle.px_steps.specs.Direct.{first_of_two, plain_on, refusals_on, step_on, step_refusals}
+use Rattle.px_column.specs.declared.error.PxError.TheVariants.{OutOfMemory}
+use Rattle.px_expr.specs.Value.{IsOneOf}
+use Rattle.px_frame.specs.External.{Frame, alone}
 use Rattle.px_steps.specs.Built.{is_built}
-use Rattle.px_steps.specs.Meets.{IsFirst}
+use Rattle.px_steps.specs.Causes.{AreSound, IsCauseIn, IsSound, IsStepCause, StandsIn, StepAnswers, StepsAnswer}
+use Rattle.px_steps.specs.Plain.{AreValid, groupings_in, groupings_of, plain_on, step_on}
 use Rattle.px_steps.specs.Step.{PlainStep, step_view}
 use Rattle.px_steps.specs.declared.step.Step.{Step}
 use Rattle.px_steps.proofs.Columns.{both}
-use Rattle.px_steps.proofs.Named.{IsFirst_or}
+
+-- a sound step before sound ones
+sound_first : (s : PlainStep) (steps : List PlainStep) (frame next : Frame) → IsSound s frame → step_on s frame ≡ Some next → AreSound steps next → AreSound (s ∷ steps) frame
+sound_first s steps frame next sound made rest = (sound, λ other e. let same : next ≡ other = cc in subst (AreSound steps) same rest)
+
+-- a step before others that answer
+pub answer_first : (s : PlainStep) (steps : List PlainStep) (cs next : List Series) (r : Result (List Series) PxError) → StepAnswers (Ok next) s cs → StepsAnswer r steps next → StepsAnswer r (s ∷ steps) cs
+answer_first s steps cs next (Ok f) one rest = (sound_first s steps (alone cs) (alone next) one.0 one.1 rest.0, ap (λ o. option_and_then (plain_on steps) o) one.1 ∙ rest.1)
+answer_first s steps cs next (Err e) one (inl m) = inl m
+answer_first s steps cs next (Err e) one (inr c) = inr (inr (one.0, (alone next, (one.1, c))))
+
+-- the first step has no answer
+pub cause_first : (s : PlainStep) (steps : List PlainStep) (cs : List Series) (e : PxError) → StepAnswers (Err e) s cs → IsCauseIn e (s ∷ steps) (alone cs)
+cause_first s steps cs e (inl m) = inl m
+cause_first s steps cs e (inr c) = inr (inl c)
 
 module _ (steps : List Step) (i : ℕ) (k : Step) (below : i < length steps) (is : k ≡ get_or steps i k) where
   at : {Y : Type 0} (f : List PlainStep → Y) → f (map step_view (drop i steps)) ≡ f (step_view k ∷ map step_view (drop (i + 1) steps))
@@ -23,17 +41,50 @@ module _ (steps : List Step) (i : ℕ) (k : Step) (below : i < length steps) (is
   pub built_here : list_all is_built (map step_view (drop i steps)) ≡ true → is_built (step_view k) ≡ true
   built_here h = (both (is_built (step_view k)) (list_all is_built (map step_view (drop (i + 1) steps))) (sym (at (list_all is_built)) ∙ h)).0
 
-  module _ (frame : List Series) where
-    pub refused_next : (next : List Series) (all : List PxError) → refusals_on (map step_view (drop i steps)) frame ≡ all → step_refusals (step_view k) frame ≡ [] → step_on (step_view k) frame ≡ Some next
-        → refusals_on (map step_view (drop (i + 1) steps)) next ≡ all
-    refused_next next all h n e =
-        sym (at (λ ss. refusals_on ss frame)
-        ∙ (λ j. first_of_two (n j) (option_map_or (refusals_on (map step_view (drop (i + 1) steps))) (e j) []))) ∙ h
+  pub grouped_next : (before after all : ℕ) → before + groupings_of (map step_view (drop i steps)) ≡ all → after ≡ before + groupings_in (step_view k) → after + groupings_of (map step_view (drop (i + 1) steps)) ≡ all
+  grouped_next before after all h e = omega (arith, at groupings_of, sum_by-cons groupings_in (step_view k) (map step_view (drop (i + 1) steps)))
 
-    pub plain_next : (next : List Series) (all : Option (List Series)) → plain_on (map step_view (drop i steps)) frame ≡ all → step_on (step_view k) frame ≡ Some next → plain_on (map step_view (drop (i + 1) steps)) next ≡ all
-    plain_next next all h e = sym (at (λ ss. plain_on ss frame) ∙ ap (λ o. option_and_then (plain_on (map step_view (drop (i + 1) steps))) o) e) ∙ h
+  pub answer_next : (cs next : List Series) (all : List PlainStep) (initial : List Series) → ((r : Result (List Series) PxError) → StepsAnswer r (map step_view (drop i steps)) cs → StepsAnswer r all initial)
+      → StepAnswers (Ok next) (step_view k) cs → (r : Result (List Series) PxError) → StepsAnswer r (map step_view (drop (i + 1) steps)) next → StepsAnswer r all initial
+  answer_next cs next all initial h one r rest =
+      h r (subst (λ (ss : List PlainStep). StepsAnswer r ss cs) (sym (at (λ ss. ss))) (answer_first (step_view k) (map step_view (drop (i + 1) steps)) cs next r one rest))
 
-    pub first_refused : (e : PxError) (all : List PxError) → refusals_on (map step_view (drop i steps)) frame ≡ all → IsFirst e (step_refusals (step_view k) frame) → IsFirst e all
-    first_refused e all h f =
-        subst (IsFirst e) (sym (at (λ ss. refusals_on ss frame)) ∙ h)
-        (IsFirst_or e (step_refusals (step_view k) frame) (option_map_or (refusals_on (map step_view (drop (i + 1) steps))) (step_on (step_view k) frame) []) f)
+  pub cause_here : (cs : List Series) (e : PxError) → StepAnswers (Err e) (step_view k) cs → IsCauseIn e (map step_view (drop i steps)) (alone cs)
+  cause_here cs e h = subst (λ (ss : List PlainStep). IsCauseIn e ss (alone cs)) (sym (at (λ ss. ss))) (cause_first (step_view k) (map step_view (drop (i + 1) steps)) cs e h)
+
+-- no step is left
+pub answer_end : (steps : List Step) (i : ℕ) (cs : List Series) → length steps ≤ i → StepsAnswer (Ok cs) (map step_view (drop i steps)) cs
+answer_end steps i cs h = subst (λ (ss : List PlainStep). StepsAnswer (Ok cs) ss cs) (sym (at_drop_all (λ ss. map step_view ss) steps i h)) (tt, refl)
+
+-- the first of some steps, before the others
+pub answer_whole : (steps : List Step) (k : Step) (cs next : List Series) (r : Result (List Series) PxError) → 1 ≤ length steps → k ≡ get_or steps 0 k → StepAnswers (Ok next) (step_view k) cs
+    → StepsAnswer r (map step_view (take (length steps - 1) (drop 1 steps))) next → StepsAnswer r (map step_view steps) cs
+answer_whole [] k cs next r some is one rest = absurd (omega arith)
+answer_whole (s ∷ steps) k cs next r some is one rest =
+    let others : take (length (s ∷ steps) - 1) (drop 1 (s ∷ steps)) ≡ steps = take_all (length (s ∷ steps) - 1) steps (omega arith) in
+    answer_first (step_view s) (map step_view steps) cs next r (subst (λ (x : Step). StepAnswers (Ok next) (step_view x) cs) is one) (subst (λ (ss : List Step). StepsAnswer r (map step_view ss) next) others rest)
+
+-- where steps are valid, no cause stands
+pub none_stands : (steps : List PlainStep) (frame : Frame) (e : PxError) → AreValid steps frame → StandsIn e steps frame → ⊥
+none_stands [] frame e v h = h
+none_stands (s ∷ steps) frame e v (inl (inl f)) = let no : None ≡ Some e = sym v.0.accepted ∙ f in cc
+none_stands (s ∷ steps) frame e v (inl (inr (a, inl o))) = subst (IsOneOf e) v.0.sound o
+none_stands (s ∷ steps) frame e v (inl (inr (a, inr t))) = omega (arith, v.0.short, t.1)
+none_stands (s ∷ steps) frame e v (inr h) = none_stands steps h.1.0 e (v.1 h.1.0 h.1.1.0) h.1.1.1
+
+pub plain_told : (r : Result (List Series) PxError) (steps : List PlainStep) (cs : List Series) → StepsAnswer r steps cs → IfOk r (λ f. plain_on steps (alone cs) ≡ Some (alone f))
+plain_told (Ok f) steps cs h = h.1
+plain_told (Err e) steps cs h = tt
+
+pub sound_told : (r : Result (List Series) PxError) (steps : List PlainStep) (cs : List Series) → StepsAnswer r steps cs → OnOk r (AreSound steps (alone cs))
+sound_told (Ok f) steps cs h = h.0
+sound_told (Err e) steps cs h = tt
+
+pub causes_told : (r : Result (List Series) PxError) (steps : List PlainStep) (cs : List Series) → StepsAnswer r steps cs → IfErr r (λ e. IsCauseIn e steps (alone cs))
+causes_told (Ok f) steps cs h = tt
+causes_told (Err e) steps cs h = h
+
+pub complete_told : (r : Result (List Series) PxError) (steps : List PlainStep) (cs : List Series) → StepsAnswer r steps cs → AreValid steps (alone cs) → IfErr r (λ e. e ≡ OutOfMemory)
+complete_told (Ok f) steps cs h v = tt
+complete_told (Err e) steps cs (inl m) v = m
+complete_told (Err e) steps cs (inr c) v = absurd (none_stands steps (alone cs) e v c)

@@ -18,7 +18,7 @@ use Rattle.px_frame.specs.Schema.{FieldKind, column_field, has_field_name}
 use Rattle.px_plan.specs.Shape.{name_of}
 use Rattle.px_plan.specs.Tree.{Tree, column, agg, len}
 use Rattle.px_plan.specs.Typing.{kind_of_name, refused_where, fails, not_list}
-use Rattle.px_steps.specs.Built.{is_built, is_built_key, is_built_agg}
+use Rattle.px_steps.specs.Built.{is_built_group, is_built_key, is_built_agg}
 use Rattle.px_steps.specs.Direct as direct
 use Rattle.px_steps.specs.Plain as plain
 use Rattle.px_steps.specs.Plain.{first_of, key_values}
@@ -42,11 +42,11 @@ kind_of_field (Some s) = refl
 pub kind_alone : (n : List ℕ) (frame : List Series) → kind_of_name n (scope_of (alone frame)) ≡ option_map (λ (s : Series). s.kind) (look n frame)
 kind_alone n frame = ap (option_map (λ (f : FieldKind). f.kind)) (field-look n frame) ∙ kind_of_field (look n frame)
 
-all_and : (a b : Bool) → (a && b) ≡ true → (a ≡ true) × (b ≡ true)
+pub all_and : (a b : Bool) → (a && b) ≡ true → (a ≡ true) × (b ≡ true)
 all_and true b h = (refl, h)
 all_and false b h = cc
 
-found_high : (test find_by : Series → Bool) (frame : List Series) (s : Series) → list_all test frame ≡ true → find find_by frame ≡ Some s → test s ≡ true
+pub found_high : (test find_by : Series → Bool) (frame : List Series) (s : Series) → list_all test frame ≡ true → find find_by frame ≡ Some s → test s ≡ true
 found_high test find_by [] s h e = cc
 found_high test find_by (x ∷ frame) s h e =
     by (find_by x) (all_and (test x) (list_all test frame) h).0 (found_high test find_by frame s (all_and (test x) (list_all test frame) h).1) e
@@ -144,11 +144,11 @@ len_same frame parts =
     rw values refl
 
 -- the expressions of a built step
-key_is : {Y : Type 0} (f g : Tree → Y) → ((n : List ℕ) → f (column n) ≡ g (column n)) → (t : Tree) → is_built_key t ≡ true → f t ≡ g t
+pub key_is : {Y : Type 0} (f g : Tree → Y) → ((n : List ℕ) → f (column n) ≡ g (column n)) → (t : Tree) → is_built_key t ≡ true → f t ≡ g t
 key_is f g h (column n) b = h n
 key_is f g h _ b = cc
 
-agg_is : {Y : Type 0} (f g : Tree → Y) → ((n : List ℕ) → f (agg Sum (column n)) ≡ g (agg Sum (column n))) → f len ≡ g len → (t : Tree) → is_built_agg t ≡ true → f t ≡ g t
+pub agg_is : {Y : Type 0} (f g : Tree → Y) → ((n : List ℕ) → f (agg Sum (column n)) ≡ g (agg Sum (column n))) → f len ≡ g len → (t : Tree) → is_built_agg t ≡ true → f t ≡ g t
 agg_is f g h l (agg Sum (column n)) b = h n
 agg_is f g h l len b = l
 agg_is f g h l _ b = cc
@@ -186,7 +186,7 @@ repeat_same None = refl
 repeat_same (Some n) = refl
 
 -- the first refusal of such a step
-pub refusal_same : (s : PlainStep) (frame : List Series) → is_built s ≡ true → plain.first_refusal s (alone frame) ≡ first_of (direct.step_refusals s frame)
+pub refusal_same : (s : PlainStep) (frame : List Series) → is_built_group s ≡ true → plain.first_refusal s (alone frame) ≡ first_of (direct.step_refusals s frame)
 refusal_same (group keys aggs None) frame b =
     let built = all_and (list_all is_built_key keys) (list_all is_built_agg aggs) b in
     let k : flat_map (plain.key_refusals (alone frame)) keys ≡ flat_map (direct.key_refusals frame) keys
@@ -212,7 +212,7 @@ front_same front None = refl
 front_same front (Some ys) = refl
 
 -- the columns that such a step makes of a frame
-pub columns_same : (s : PlainStep) (frame : List Series) → is_built s ≡ true → IsFrame frame → plain.columns_made s (alone frame) ≡ direct.step_on s frame
+pub columns_same : (s : PlainStep) (frame : List Series) → is_built_group s ≡ true → IsFrame frame → plain.columns_made s (alone frame) ≡ direct.step_on s frame
 columns_same (group keys aggs None) frame b is =
     let built = all_and (list_all is_built_key keys) (list_all is_built_agg aggs) b in
     let k : each (plain.key_on (alone frame)) keys ≡ each (direct.key_on frame) keys

@@ -11,6 +11,7 @@ pub mod Fault
 pub mod Plain
 pub mod Direct
 pub mod Built
+pub mod Causes
 pub mod BuiltDocument
 pub mod DocumentText
 pub mod DirectLaws

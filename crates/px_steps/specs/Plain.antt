@@ -1,6 +1,6 @@
 -- What steps mean on plain frames, why they are refused, and the faults of their values.
 use Rattle.std.specs.Prelude.{◌≡◌, ℕ, ◌^◌, ◌<◌, not, ◌==◌, List, [], ◌∷◌, ◌++◌, Option, Some, None, Result, Ok, Err, map, max, sum, option_map, if◌then◌else◌}
-use Rattle.std.specs.List.{flat_map, filter_map, list_any}
+use Rattle.std.specs.List.{flat_map, filter_map, list_any, sum_by}
 use Rattle.std.specs.Option.{option_map_or, option_or}
 use Rattle.std.specs.Result.{result_ok}
 use Rattle.px_column.specs.Datum.{Slot}
@@ -193,7 +193,11 @@ abbrev pub AreValid : List PlainStep → Frame → Type 0
 AreValid [] frame = Unit {0}
 AreValid (s ∷ steps) frame = IsValid s frame × ((next : Frame) → step_on s frame ≡ Some next → AreValid steps next)
 
--- the steps run as far as they are not refused and have values: the first refusal, where there is one
-abbrev pub first_refusal_of : List PlainStep → Frame → Option PxError
-first_refusal_of [] frame = None
-first_refusal_of (s ∷ steps) frame = option_or (first_refusal s frame) (option_map_or (first_refusal_of steps) (step_on s frame) None)
+-- how many times a step forms groups
+abbrev pub groupings_in : PlainStep → ℕ
+groupings_in (group keys aggs chunks) = 1
+groupings_in _ = 0
+
+-- how many times steps form groups
+abbrev pub groupings_of : List PlainStep → ℕ
+groupings_of steps = sum_by groupings_in steps

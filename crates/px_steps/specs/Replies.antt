@@ -1,7 +1,9 @@
 -- What a reply tells of its input.
 use Rattle.std.specs.Prelude.{◌≡◌, ℕ, ◌+◌, List}
 use Rattle.px_steps.specs.Label.{bad_document_line}
-use Rattle.px_steps.specs.Reply.{IsResult, IsRefusal, IsNoDocument}
+use Rattle.px_steps.specs.Document.{Doc}
+use Rattle.px_steps.specs.Plain.{groupings_of}
+use Rattle.px_steps.specs.Reply.{IsDocument, IsResult, IsRefusal, IsNoDocument}
 use Rattle.px_steps.specs.declared.reply.Reply.{Reply}
 use Rattle.px_steps.specs.declared.reply.Reply.TheVariants.{Frame, Refusal, BadDocument}
 
@@ -11,8 +13,8 @@ Replies bytes (Frame text) = IsResult bytes text
 Replies bytes (Refusal text) = IsRefusal bytes text
 Replies bytes BadDocument = IsNoDocument bytes bad_document_line
 
--- a frame was made by one grouping
-abbrev pub Grouped : Reply → ℕ → ℕ → Type 0
-Grouped (Frame text) old new = new ≡ old + 1
-Grouped (Refusal text) old new = Unit {0}
-Grouped BadDocument old new = Unit {0}
+-- a frame was made by one grouping for each group step of the document
+abbrev pub Grouped : List ℕ → Reply → ℕ → ℕ → Type 0
+Grouped bytes (Frame text) old new = (doc : Doc) → IsDocument bytes doc → new ≡ old + groupings_of doc.steps
+Grouped bytes (Refusal text) old new = Unit {0}
+Grouped bytes BadDocument old new = Unit {0}

@@ -1,13 +1,15 @@
 -- What is written for an input.
-use Rattle.std.specs.Prelude.{◌≡◌, ℕ, List, Some, None}
+use Rattle.std.specs.Prelude.{◌≡◌, ◌≢◌, ℕ, List, Some}
 use Rattle.px_column.specs.Series.{Series}
 use Rattle.px_column.specs.declared.error.PxError.{PxError}
+use Rattle.px_column.specs.declared.error.PxError.TheVariants.{OutOfMemory}
 use Rattle.px_frame.specs.Frame.{IsFrame, height_of}
 use Rattle.px_steps.specs.Document.{Doc}
 use Rattle.px_steps.specs.DocumentText.{IsDocumentText}
 use Rattle.px_steps.specs.Label.{line_of, bad_document_line}
 use Rattle.px_frame.specs.External.{alone}
-use Rattle.px_steps.specs.Plain.{first_refusal_of, plain_on}
+use Rattle.px_steps.specs.Causes.{AreSound, IsCauseIn}
+use Rattle.px_steps.specs.Plain.{plain_on}
 use Rattle.px_steps.specs.Text.{text_of}
 
 -- the bytes say this document, and its columns are a frame: distinct names, one length
@@ -15,21 +17,22 @@ pub record IsDocument (bytes : List ℕ) (doc : Doc) : Type 0 where
   pub says : IsDocumentText bytes doc
   pub frame : IsFrame doc.columns
 
--- no step is refused, and the text is that of the frame which the steps make
+-- no step is refused or has a fault, and the text is that of the frame which the steps make
 pub record IsResult (bytes text : List ℕ) : Type 0 where
   pub doc : Doc
   pub document : IsDocument bytes doc
-  pub valid : first_refusal_of doc.steps (alone doc.columns) ≡ None
+  pub sound : AreSound doc.steps (alone doc.columns)
   pub made : List Series
   pub plain : plain_on doc.steps (alone doc.columns) ≡ Some (alone made)
   pub written : text ≡ text_of made (height_of made)
 
--- a step is refused, and the text is the line of the first refusal
+-- a step is refused or has a fault, and the text is the line of that cause, which is not want of memory
 pub record IsRefusal (bytes text : List ℕ) : Type 0 where
   pub doc : Doc
   pub document : IsDocument bytes doc
   pub fault : PxError
-  pub first : first_refusal_of doc.steps (alone doc.columns) ≡ Some fault
+  pub cause : IsCauseIn fault doc.steps (alone doc.columns)
+  pub told : fault ≢ OutOfMemory
   pub written : text ≡ line_of fault
 
 -- the bytes say no document, and the text is the line that tells so

@@ -11,7 +11,7 @@ ghost use Rattle.px_plan.specs.Shape.{name_of};
 ghost use Rattle.px_steps.specs.Direct.{first_of_two, key_on, key_refusals, aggregated_on, agg_refusals, columns_on, repeat_refusal, step_on, step_refusals};
 ghost use Rattle.px_plan.specs.Tree.{column, agg, len};
 ghost use Rattle.px_plan.specs.View.{agg_tree, tree};
-ghost use Rattle.px_steps.specs.Built.{is_built, is_built_key, is_built_agg, is_key};
+ghost use Rattle.px_steps.specs.Built.{is_built_group, is_built_key, is_built_agg, is_key};
 ghost use Rattle.px_column.specs.Option.{each};
 ghost use Rattle.px_steps.specs.Form.{with_front};
 ghost use Rattle.px_steps.specs.Meets.{Meets, MeetsBy};
@@ -219,7 +219,7 @@ pub(crate) fn group_step<L: Ledger, M: Ledger>(
     kernels: &mut Steps<L>,
     groupings: &mut Steps<M>,
 ) -> Px<DataFrame>
-    requires built { is_built (group (map tree keys.now) (map tree aggs.now) None) ≡ true }
+    requires built { is_built_group (group (map tree keys.now) (map tree aggs.now) None) ≡ true }
     ensures answer { Meets result (step_refusals (group (map tree keys.now) (map tree aggs.now) None) frame.now)
         (step_on (group (map tree keys.now) (map tree aggs.now) None) frame.now) }
     ensures grouped { OnOk result (groupings.new ≡ groupings.old + 1) }

@@ -9,10 +9,11 @@ ghost use Rattle.px_steps.specs.declared.reply.Reply.TheVariants.{Frame, Refusal
 
 use crate::document::{DocumentFault, read_document};
 use crate::label::error_line;
-use crate::run_steps::run_plain_steps;
+use crate::runner::run_steps;
 use crate::text::frame_text;
 use px_column::{ByteString, PxError, Steps};
 use px_frame::DataFrame;
+use px_window::ExecutionState;
 use std::alloc::{AllocError, Global};
 use std::sync::ledger::Ledger;
 
@@ -21,7 +22,7 @@ use std::sync::ledger::Ledger;
 pub(crate) enum Reply {
     /// The text of the frame that the steps make.
     Frame(ByteString),
-    /// The line of the first refusal.
+    /// The line of what keeps a step from its frame.
     Refusal(ByteString),
     /// The line of an input that is no document.
     BadDocument,
@@ -56,8 +57,8 @@ fn fault_reply(alloc: Global, fault: &PxError) -> Result<Reply, AllocError>
     }
 }
 
-/// The text of the frame that the document's steps make, the line of their first refusal, or that
-/// the input is no document.
+/// The text of the frame that the document's steps make, the line of what keeps a step from its
+/// frame, or that the input is no document.
 pub(crate) fn reply_to<L: Ledger, M: Ledger>(
     alloc: Global,
     bytes: &[u8],
@@ -65,14 +66,24 @@ pub(crate) fn reply_to<L: Ledger, M: Ledger>(
     groupings: &mut Steps<M>,
 ) -> Result<Reply, AllocError>
     ensures reply { IfOk result (λ r. Replies bytes.now r) }
-    ensures grouped { IfOk result (λ r. Grouped r groupings.old groupings.new) }
+    ensures grouped { IfOk result (λ r. Grouped bytes.now r groupings.old groupings.new) }
 {
     let document = match read_document(alloc, bytes) {
         Ok(document) => document,
         Err(DocumentFault::BadDocument) => return Ok(Reply::BadDocument),
         Err(DocumentFault::OutOfMemory) => return Err(AllocError),
     };
-    match run_plain_steps(alloc, document.frame, &document.steps, kernels, groupings) {
+    let Ok(mut state) = ExecutionState::new(alloc, false) else {
+        return Err(AllocError);
+    };
+    match run_steps(
+        alloc,
+        &document.frame,
+        &document.steps,
+        &mut state,
+        kernels,
+        groupings,
+    ) {
         Ok(frame) => frame_reply(alloc, &frame),
         Err(fault) => fault_reply(alloc, &fault),
     }

@@ -4,7 +4,7 @@ ghost use Rattle.px_steps.specs.Document.{Doc};
 ghost use Rattle.px_steps.specs.Ends.{Rose, TakesAll, TakesPart};
 ghost use Rattle.px_steps.specs.Label.{bad_document_line};
 ghost use Rattle.px_frame.specs.External.{alone};
-ghost use Rattle.px_steps.specs.Plain.{first_refusal_of};
+ghost use Rattle.px_steps.specs.Plain.{AreValid, groupings_of};
 ghost use Rattle.px_steps.specs.Reply.{IsDocument};
 ghost use Rattle.px_steps.specs.Run.{Calm, Ends, IsCommand, Silent};
 
@@ -61,7 +61,10 @@ fn answer<K: Sink, L: Ledger, M: Ledger>(
     ensures write_fault { result ≡ Status.WriteFault →
         Rose (K.faults sink.old) (K.faults sink.new) }
     ensures counted { K.faults sink.old ≤ K.faults sink.new }
-    ensures grouped { result ≡ Status.Done → groupings.new ≡ groupings.old + 1 }
+    ensures grouped { (doc : Doc) →
+        result ≡ Status.Done →
+        IsDocument bytes.now doc →
+        groupings.new ≡ groupings.old + groupings_of doc.steps }
 {
     match reply_to(alloc, bytes, kernels, groupings) {
         Ok(Reply::Frame(text)) => written(sink, text.as_slice(), Status::Done),
@@ -89,7 +92,11 @@ fn run_command<S: Source, K: Sink, L: Ledger, M: Ledger>(
         Rose (K.faults sink.old) (K.faults sink.new) }
     ensures read_counted { S.faults source.old ≤ S.faults source.new }
     ensures write_counted { K.faults sink.old ≤ K.faults sink.new }
-    ensures grouped { result ≡ Status.Done → groupings.new ≡ groupings.old + 1 }
+    ensures grouped { (b : List ℕ) (doc : Doc) →
+        result ≡ Status.Done →
+        S.left source.old ≡ Some b →
+        IsDocument b doc →
+        groupings.new ≡ groupings.old + groupings_of doc.steps }
 {
     match read_all(alloc, source) {
         Ok(bytes) => answer(alloc, &bytes, sink, kernels, groupings),
@@ -101,7 +108,7 @@ fn run_command<S: Source, K: Sink, L: Ledger, M: Ledger>(
 
 /// What the program does with its words. Where they are exactly the one word `run`: it reads the
 /// source to its end as one document and writes the text of the frame that the document's steps make
-/// (`Done`), the line of the first refusal (`Refused`), or the line of a bad document
+/// (`Done`), the line of a refusal or a fault (`Refused`), or the line of a bad document
 /// (`BadDocument`), which 2^26 bytes and more are too, of which that many are read. The text is
 /// complete before the first of it is written. `ReadFault`, `WriteFault` and `OutOfMemory` tell why
 /// it stopped; it tries nothing again. With other words it touches nothing and tells `Usage`.
@@ -130,17 +137,21 @@ pub fn run<S: Source, K: Sink, L: Ledger, M: Ledger>(
         Rose (K.faults sink.old) (K.faults sink.new) }
     ensures read_counted { S.faults source.old ≤ S.faults source.new }
     ensures write_counted { K.faults sink.old ≤ K.faults sink.new }
-    // A document with no refusal is done, where no read and no write fails and memory is not wanting.
+    // A document of valid steps is done, where no read and no write fails and memory is not wanting.
     ensures complete { (b : List ℕ) (doc : Doc) →
         S.left source.old ≡ Some b →
         IsDocument b doc →
-        first_refusal_of doc.steps (alone doc.columns) ≡ None →
+        AreValid doc.steps (alone doc.columns) →
         IsCommand (map string_bytes words.now) →
         Calm (S.faults source.old) (S.faults source.new) →
         Calm (K.faults sink.old) (K.faults sink.new) →
         (result ≡ Status.Done) ⊎ (result ≡ Status.OutOfMemory) }
-    // A frame is made by one grouping.
-    ensures grouped { result ≡ Status.Done → groupings.new ≡ groupings.old + 1 }
+    // A frame is made by one grouping for each group step.
+    ensures grouped { (b : List ℕ) (doc : Doc) →
+        result ≡ Status.Done →
+        S.left source.old ≡ Some b →
+        IsDocument b doc →
+        groupings.new ≡ groupings.old + groupings_of doc.steps }
 {
     if is_command(words) {
         run_command(alloc, source, sink, kernels, groupings)

@@ -7,7 +7,7 @@ use Rattle.px_column.specs.declared.error.PxError.TheVariants.{ColumnNotFound, D
 use Rattle.px_frame.specs.External.{alone}
 use Rattle.px_frame.specs.Frame.{IsFrame}
 use Rattle.px_plan.specs.Tree.{column}
-use Rattle.px_steps.specs.Built.{is_built, is_built_key, is_built_agg}
+use Rattle.px_steps.specs.Built.{is_built_group, is_built_key, is_built_agg}
 use Rattle.px_steps.specs.Direct as direct
 use Rattle.px_steps.specs.DirectLaws.{refusal_same, columns_same}
 use Rattle.px_steps.specs.Meets.{Meets}
@@ -26,7 +26,7 @@ aggs_built [] = refl
 aggs_built (Sum n ∷ aggs) = aggs_built aggs
 aggs_built (Len ∷ aggs) = aggs_built aggs
 
-step_built : (keys : List (List ℕ)) (aggs : List Aggregation) → is_built (step_by keys aggs) ≡ true
+step_built : (keys : List (List ℕ)) (aggs : List Aggregation) → is_built_group (step_by keys aggs) ≡ true
 step_built keys aggs = λ i. keys_built keys i && aggs_built aggs i
 
 none_first : (es : List PxError) → first_of es ≡ None → es ≡ []

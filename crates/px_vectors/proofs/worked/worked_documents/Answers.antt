@@ -1,4 +1,4 @@
-use Rattle.std.proofs.Common.{◌≡◌, Some, None, codes, refl, lit<}
+use Rattle.std.proofs.Common.{◌≡◌, inl, inr, Some, None, codes, refl, lit<}
 use Rattle.std.specs.Int.{int_wrap}
 use Rattle.serde_json.proofs.OnLiterals.{serde_json_on_literals}
 use Rattle.px_column.specs.declared.error.PxError.TheVariants.{ColumnNotFound}
@@ -12,7 +12,7 @@ unfolding serde_json_on_literals int_wrap
 returns-clause-result c = record {
   doc = four_rows_doc (codes "x");
   document = record { says = record { short = lit< tt; utf8 = (document_text (codes "x"), (refl, refl)); says = refl; built = refl }; frame = record { distinct = refl; even = refl } };
-  valid = refl;
+  sound = (record { accepted = refl; sound = refl }, λ next made. tt);
   made = four_grouped;
   plain = refl;
   written = refl;
@@ -24,7 +24,8 @@ returns-clause-refusal c = record {
   doc = four_rows_doc (codes "y");
   document = record { says = record { short = lit< tt; utf8 = (document_text (codes "y"), (refl, refl)); says = refl; built = refl }; frame = record { distinct = refl; even = refl } };
   fault = ColumnNotFound (codes "y");
-  first = refl;
+  cause = inr (inl (inl refl));
+  told = λ e. cc;
   written = refl;
 }
 

@@ -1,0 +1,358 @@
+-- What is known of planned expressions that are not refused: their types, their columns, and why they have no value.
+use Rattle.std.proofs.Common.{◌≡◌, ◌⊎◌, inl, inr, ℕ, ◌^◌, ◌≤◌, Bool, true, false, not, ◌&&◌, ◌||◌, cond, List, [], ◌∷◌, ◌++◌, Option, Some, None, Result, Ok, Err, option_map, option_and_then, map, arith, max, refl, sym, ◌∙◌, ap, subst}
+use Rattle.std.specs.Prelude.{is_none, is_some}
+use Rattle.std.specs.List.{filter_map, find, flat_map, list_all, list_any}
+use Rattle.std.specs.Option.{option_map_or}
+use Rattle.std.specs.Result.{result_ok}
+use Rattle.px_column.specs.Answer.{Answers, AnswersBy, Refuses}
+use Rattle.px_column.specs.Kind.{Kind}
+use Rattle.px_column.specs.Option.{each}
+use Rattle.px_column.specs.Reduction.{reduced_kind}
+use Rattle.px_column.specs.Result.{◌>>=◌}
+use Rattle.px_column.specs.Series.{Series}
+use Rattle.px_column.specs.declared.error.PxError.{PxError}
+use Rattle.px_column.specs.declared.error.PxError.TheVariants.{ColumnNotFound, Duplicate, InvalidOperation, ComputeError, OutOfBounds, ShapeMismatch, SchemaMismatch, OutOfMemory}
+use Rattle.px_column.specs.declared.error.ComputeWhy.TheVariants.{AggLiteral, AggScalar, SingleIndex, NoKey, NotPartitionSafe, SliceArgument, NullIndex, RangeBound, WindowLength, ChunkLengths, TooLong, DepthText, Interrupted}
+use Rattle.px_column.specs.declared.method.GroupByMethod.{GroupByMethod}
+use Rattle.px_column.specs.declared.method.GroupByMethod.TheVariants.{Min, Max, Sum, First, Last, NUnique, Count, Implode}
+use Rattle.px_expr.specs.Built.{is_built_tree, is_sum}
+use Rattle.px_expr.specs.Plan.{plan_in, planned_over}
+use Rattle.px_expr.specs.Planned.{Planned, PlannedColumn, is_added, is_reserved, found_by}
+use Rattle.px_expr.specs.Value.{IsValue, IsCause, IsOneOf, causes_on, unfound_refusal}
+use Rattle.px_frame.specs.External.{Frame, alone, look_in, scope_of}
+use Rattle.px_frame.specs.Cell.{Cell}
+use Rattle.px_frame.specs.Frame.{first_repeat, look, name_eq, unless_repeated}
+use Rattle.px_frame.specs.Spread.{NamedCell, assembled, rows_beside, spread_all}
+use Rattle.px_frame.specs.Schema.{FieldKind, column_field, has_field_name, is_field_name}
+use Rattle.px_plan.specs.Node.{cell_of}
+use Rattle.px_plan.specs.Nodes.{leaf_names}
+use Rattle.px_plan.specs.Shape.{is_unit, name_of}
+use Rattle.px_plan.specs.Size.{size_on}
+use Rattle.px_plan.specs.Tree.{Tree, column, literal, alias, agg, len}
+use Rattle.px_plan.specs.Typing.{Scope, kind_in, kind_of_name, refusals_of, refused_where, refusal_of, refusal_of_one, made_kind, literal_kind, or_first, first_or_kind}
+use Rattle.px_plan.specs.Value.{faults_on, is_misfit, has_misfit, value_on, named}
+use Rattle.px_plan.specs.declared.context.Context.TheVariants.{Default}
+use Rattle.px_steps.specs.DirectLaws.{field-look}
+use Rattle.px_steps.specs.Meets.{MeetsBy, IsFirst}
+use Rattle.px_steps.specs.Causes.{IsCauseOfAny, IsSound, IsStepCause, StepAnswers}
+use Rattle.px_steps.specs.Plain.{first_of, first_refusal, frame_refusals, greatest, named_value, misfit_faults, refused_by, repeat_refusal, step_faults, step_on, step_refusals, uneven_fault}
+use Rattle.px_steps.specs.Step.{PlainStep, select}
+use Rattle.px_expr.specs.NodeView.{plan_of}
+use Rattle.px_expr.specs.declared.node.PhysExpr.{PhysExpr}
+use Rattle.px_steps.proofs.Columns.{both, made_each}
+use Rattle.px_steps.proofs.Named.{IsFirst_append, refuses_first, refuses_none}
+
+pub nil_left : {A : Type 0} (xs ys : List A) → xs ++ ys ≡ [] → xs ≡ []
+nil_left [] ys h = refl
+nil_left (x ∷ xs) ys h = cc
+
+pub nil_right : {A : Type 0} (xs ys : List A) → xs ++ ys ≡ [] → ys ≡ []
+nil_right [] ys h = h
+nil_right (x ∷ xs) ys h = cc
+
+inputs_none : (inputs own : List PxError) → or_first inputs own ≡ [] → inputs ≡ []
+inputs_none [] own h = refl
+inputs_none (e ∷ es) own h = cc
+
+own_none : (inputs own : List PxError) → or_first inputs own ≡ [] → own ≡ []
+own_none [] [] h = refl
+own_none [] (e ∷ es) h = cc
+own_none (e ∷ es) own h = cc
+
+-- a value that is there
+abbrev pub There : {A : Type 0} → Option A → Type 0
+There {A} o = (a : A) × (o ≡ Some a)
+
+name_there : (o : Option Kind) (e : PxError) → refused_where (is_none o) e ≡ [] → There o
+name_there None e h = cc
+name_there (Some k) e h = (k, refl)
+
+typed_there : (r : Result Kind PxError) → refusal_of r ≡ [] → There (made_kind r)
+typed_there (Ok k) h = (k, refl)
+typed_there (Err e) h = cc
+
+-- an expression that is not refused has a type
+pub kind_there : (t : Tree) (scope : Scope) → is_built_tree t ≡ true → refusals_of t scope Default ≡ [] → There (kind_in t scope)
+kind_there (column n) scope b h = name_there (kind_of_name n scope) (ColumnNotFound n) h
+kind_there (literal v) scope b h = (literal_kind v, refl)
+kind_there (alias e n) scope b h = kind_there e scope b h
+kind_there (agg m e) scope b h =
+    let input = kind_there e scope (both (is_sum m) (is_built_tree e) b).1 (inputs_none (refusals_of e scope Default) _ h) in
+    let own : refusal_of (reduced_kind m input.0) ≡ [] = (λ i. refusal_of_one (reduced_kind m) (sym input.1 i)) ∙ own_none (refusals_of e scope Default) _ h in
+    let k = typed_there (reduced_kind m input.0) own in
+    (k.0, ap (λ o. option_and_then (λ j. made_kind (reduced_kind m j)) o) input.1 ∙ k.1)
+kind_there len scope b h = (_, refl)
+kind_there _ scope b h = cc
+
+-- the planner's answer is told by the refusals
+pub planned_meets : {X : Type 0} (view : X → Planned) (t : Tree) (scope : Scope) (r : Result X PxError) → is_built_tree t ≡ true
+    → AnswersBy view r (plan_in None t scope Default) → MeetsBy view r (refusals_of t scope Default) (Some (planned_over scope t))
+planned_meets {X} view t scope r b a = by (refusals_of t scope Default) (kind_in t scope) (kind_there t scope b) r a
+  where
+    by : (R : List PxError) (K : Option Kind) → (R ≡ [] → There K) → (r : Result X PxError)
+        → AnswersBy view r (first_or_kind R K >>= λ k. Ok (planned_over scope t))
+        → MeetsBy view r R (Some (planned_over scope t))
+    by [] None there r a = let k = there refl in cc
+    by [] (Some k) there (Ok x) a = let same : planned_over scope t ≡ view x = cc in (refl, ap Some same)
+    by [] (Some k) there (Err e) a = refuses_none e _ [] a
+    by (e ∷ es) K there (Ok x) a = cc
+    by (e ∷ es) K there (Err f) a = refuses_first _ f e es a
+
+field_there : (n : List ℕ) (fields : List FieldKind) (g : FieldKind) → find (has_field_name n) fields ≡ Some g → is_field_name n fields ≡ true
+field_there n [] g h = cc
+field_there n (f ∷ fields) g h = by (name_eq n f.name) h (field_there n fields g)
+  where
+    by : (b : Bool) → cond b (Some f) (find (has_field_name n) fields) ≡ Some g → (find (has_field_name n) fields ≡ Some g → is_field_name n fields ≡ true) → (b || is_field_name n fields) ≡ true
+    by true h rest = refl
+    by false h rest = rest h
+
+found_there : (n : List ℕ) (cs : List Series) → There (kind_of_name n (map column_field cs)) → There (find (has_field_name n) (map column_field cs)) × There (look n cs)
+found_there n cs t = by (look n cs) (find (has_field_name n) (map column_field cs)) (field-look n cs) t
+  where
+    by : (o : Option Series) (f : Option FieldKind) → f ≡ option_map column_field o → There (option_map (λ (f : FieldKind). f.kind) f) → There f × There o
+    by None None e t = cc (t.1)
+    by None (Some f) e t = cc
+    by (Some s) None e t = cc
+    by (Some s) (Some f) e t = ((f, refl), (s, refl))
+
+not_both : (r b : Bool) → b ≡ true → (r && not b) ≡ false
+not_both r true h = by r
+  where
+    by : (r : Bool) → (r && false) ≡ false
+    by true = refl
+    by false = refl
+not_both r false h = cc
+
+-- the node of a name that has a type finds its column
+name_found : (n : List ℕ) (cs : List Series) (e : PxError) → refused_where (is_none (kind_of_name n (map column_field cs))) e ≡ [] → unfound_refusal (alone cs) (record { name = n; schema = map column_field cs }) ≡ []
+name_found n cs e h =
+    let t = found_there n cs (name_there (kind_of_name n (map column_field cs)) e h) in
+    let plain : (is_reserved n && not (is_field_name n (map column_field cs))) ≡ false = not_both (is_reserved n) (is_field_name n (map column_field cs)) (field_there n (map column_field cs) t.0.0 t.0.1) in
+    let there : look n cs ≡ Some t.1.0 = t.1.1 in
+    rw (plain, there) refl
+
+-- each column node of an expression that is not refused finds its column
+pub leaves_found : (cs : List Series) (t : Tree) → is_built_tree t ≡ true → refusals_of t (map column_field cs) Default ≡ [] → flat_map (unfound_refusal (alone cs)) (planned_over (map column_field cs) t).columns ≡ []
+leaves_found cs (column n) b h = ap (λ es. es ++ []) (name_found n cs (ColumnNotFound n) h)
+leaves_found cs (literal v) b h = refl
+leaves_found cs (alias e n) b h = leaves_found cs e b h
+leaves_found cs (agg m e) b h = leaves_found cs e (both (is_sum m) (is_built_tree e) b).1 (inputs_none (refusals_of e (map column_field cs) Default) _ h)
+leaves_found cs len b h = refl
+leaves_found cs _ b h = cc
+
+and_false : (b : Bool) → (b && false) ≡ false
+and_false true = refl
+and_false false = refl
+
+no_misfit : (cs : List Series) (ns : List (List ℕ)) → list_any (is_misfit (alone cs)) ns ≡ false
+no_misfit cs [] = refl
+no_misfit cs (n ∷ ns) = λ i. and_false (not (is_some (look n cs))) i || no_misfit cs ns i
+
+-- nothing stands beside a frame that is alone
+pub no_misfits : (cs : List Series) (ts : List Tree) → misfit_faults (alone cs) ts ≡ []
+no_misfits cs ts = ap (λ b. refused_where b ShapeMismatch) (none ts)
+  where
+    none : (ts : List Tree) → list_any (λ e. has_misfit e (alone cs)) ts ≡ false
+    none [] = refl
+    none (t ∷ ts) = λ i. no_misfit cs (leaf_names t) i || none ts i
+
+-- a value as a column, under its name and type
+pub value_named : (p : Planned) (frame : Frame) (s : Series) → IsValue p frame s → named_value frame p.tree ≡ Some (record { name = s.name; kind = s.kind; cell = cell_of (is_unit p.tree) s.slots })
+value_named p frame s v =
+    ap (λ o. option_and_then (named p.tree frame) o) v.value
+    ∙ ap (λ o. option_map (λ k. record { name = name_of p.tree; kind = k; cell = cell_of (is_unit p.tree) s.slots }) o) v.kind
+    ∙ (λ i. Some (record { name = sym v.name i; kind = s.kind; cell = cell_of (is_unit p.tree) s.slots }))
+
+-- a value has no faults
+pub value_sound : (p : Planned) (frame : Frame) (s : Series) → IsValue p frame s → faults_on p.tree frame ≡ []
+value_sound p frame s v = nil_right (refusals_of p.tree (scope_of frame) Default ++ flat_map (unfound_refusal frame) p.columns ++ refused_where (has_misfit p.tree frame) ShapeMismatch) _ v.sound
+
+pub one_left : (e : PxError) (xs ys : List PxError) → IsOneOf e xs → IsOneOf e (xs ++ ys)
+one_left e [] ys h = absurd h
+one_left e (x ∷ xs) ys (inl h) = inl h
+one_left e (x ∷ xs) ys (inr h) = inr (one_left e xs ys h)
+
+pub one_right : (e : PxError) (xs ys : List PxError) → IsOneOf e ys → IsOneOf e (xs ++ ys)
+one_right e [] ys h = h
+one_right e (x ∷ xs) ys h = inr (one_right e xs ys h)
+
+-- memory was wanting, or one of some faults stands, or so many values are too many
+abbrev pub Lacks : PxError → List PxError → ℕ → Type 0
+Lacks e faults n = (e ≡ OutOfMemory) ⊎ (IsOneOf e faults ⊎ ((e ≡ ComputeError TooLong) × (2 ^ 32 ≤ n)))
+
+cause_lacks : (e : PxError) (p : Planned) (frame : Frame) → IsCause e p frame → Lacks e (causes_on p frame) (size_on p.tree (frame ∷ []))
+cause_lacks OutOfMemory p frame h = inl refl
+cause_lacks (ComputeError TooLong) p frame h = inr (inr (refl, h))
+cause_lacks (ComputeError w) p frame h = inr (inl h)
+cause_lacks (ColumnNotFound n) p frame h = inr (inl h)
+cause_lacks (Duplicate n) p frame h = inr (inl h)
+cause_lacks (InvalidOperation w) p frame h = inr (inl h)
+cause_lacks OutOfBounds p frame h = inr (inl h)
+cause_lacks ShapeMismatch p frame h = inr (inl h)
+cause_lacks SchemaMismatch p frame h = inr (inl h)
+
+-- the causes of an expression that is not refused are its faults
+faults_alone : (cs : List Series) (t : Tree) → is_built_tree t ≡ true → refusals_of t (map column_field cs) Default ≡ [] → causes_on (planned_over (map column_field cs) t) (alone cs) ≡ faults_on t (alone cs)
+faults_alone cs t b h = λ i. ((h i ++ leaves_found cs t b h i) ++ refused_where (no_misfit cs (leaf_names t) i) ShapeMismatch) ++ faults_on t (alone cs)
+
+lacks_first : (e : PxError) (xs ys : List PxError) (m n : ℕ) → Lacks e xs m → Lacks e (xs ++ ys) (max m n)
+lacks_first e xs ys m n (inl h) = inl h
+lacks_first e xs ys m n (inr (inl h)) = inr (inl (one_left e xs ys h))
+lacks_first e xs ys m n (inr (inr h)) = inr (inr (h.0, omega (arith, h.1)))
+
+lacks_later : (e : PxError) (xs ys : List PxError) (m n : ℕ) → Lacks e ys n → Lacks e (xs ++ ys) (max m n)
+lacks_later e xs ys m n (inl h) = inl h
+lacks_later e xs ys m n (inr (inl h)) = inr (inl (one_right e xs ys h))
+lacks_later e xs ys m n (inr (inr h)) = inr (inr (h.0, omega (arith, h.1)))
+
+-- what one of some expressions lacks that are not refused
+pub any_lacks : (cs : List Series) (e : PxError) (ts : List Tree) → list_all is_built_tree ts ≡ true → flat_map (frame_refusals (alone cs)) ts ≡ [] → IsCauseOfAny e (map (planned_over (map column_field cs)) ts) (alone cs)
+    → Lacks e (flat_map (λ t. faults_on t (alone cs)) ts) (greatest (map (λ t. size_on t (alone cs ∷ [])) ts))
+any_lacks cs e [] b h c = inl c
+any_lacks cs e (t ∷ ts) b h (inl c) =
+    let one = both (is_built_tree t) (list_all is_built_tree ts) b in
+    let sound : refusals_of t (map column_field cs) Default ≡ [] = nil_left (frame_refusals (alone cs) t) (flat_map (frame_refusals (alone cs)) ts) h in
+    lacks_first e (faults_on t (alone cs)) _ (size_on t (alone cs ∷ [])) _
+    (subst (λ (es : List PxError). Lacks e es (size_on t (alone cs ∷ []))) (faults_alone cs t one.0 sound) (cause_lacks e (planned_over (map column_field cs) t) (alone cs) c))
+any_lacks cs e (t ∷ ts) b h (inr c) =
+    let one = both (is_built_tree t) (list_all is_built_tree ts) b in
+    let sound = nil_right (frame_refusals (alone cs) t) (flat_map (frame_refusals (alone cs)) ts) h in
+    lacks_later e (faults_on t (alone cs)) _ (size_on t (alone cs ∷ [])) _ (any_lacks cs e ts one.1 sound c)
+
+-- want of memory is a cause of any
+pub memory_lacks : (ps : List Planned) (frame : Frame) → IsCauseOfAny OutOfMemory ps frame
+memory_lacks [] frame = refl
+memory_lacks (p ∷ ps) frame = inr (memory_lacks ps frame)
+
+-- a refusal that is told is the first one, or memory was wanting
+pub first_cause : (e : PxError) (refusals : List PxError) → IsFirst e refusals → (e ≡ OutOfMemory) ⊎ (first_of refusals ≡ Some e)
+first_cause OutOfMemory refusals h = inl refl
+first_cause (ColumnNotFound n) refusals h = inr h
+first_cause (Duplicate n) refusals h = inr h
+first_cause (InvalidOperation w) refusals h = inr h
+first_cause (ComputeError w) refusals h = inr h
+first_cause OutOfBounds refusals h = inr h
+first_cause ShapeMismatch refusals h = inr h
+first_cause SchemaMismatch refusals h = inr h
+
+-- the first refusal of a step is a cause
+pub refusal_cause : (e : PxError) (s : PlainStep) (frame : Frame) → IsFirst e (step_refusals s frame) → (e ≡ OutOfMemory) ⊎ IsStepCause e s frame
+refusal_cause e s frame h = by (first_cause e (step_refusals s frame) h)
+  where
+    by : (e ≡ OutOfMemory) ⊎ (first_of (step_refusals s frame) ≡ Some e) → (e ≡ OutOfMemory) ⊎ IsStepCause e s frame
+    by (inl m) = inl m
+    by (inr f) = inr (inl f)
+
+pub typing_cause : (e : PxError) (ts : List Tree) (cs : List Series) → IsFirst e (flat_map (frame_refusals (alone cs)) ts) → (e ≡ OutOfMemory) ⊎ IsStepCause e (select ts) (alone cs)
+typing_cause e ts cs h = refusal_cause e (select ts) (alone cs) (IsFirst_append e (flat_map (frame_refusals (alone cs)) ts) (repeat_refusal ts) h)
+
+pub naming_cause : (e : PxError) (ts : List Tree) (cs : List Series) → flat_map (frame_refusals (alone cs)) ts ≡ [] → IsFirst e (repeat_refusal ts) → (e ≡ OutOfMemory) ⊎ IsStepCause e (select ts) (alone cs)
+naming_cause e ts cs none h = refusal_cause e (select ts) (alone cs) (subst (λ (es : List PxError). IsFirst e (es ++ repeat_refusal ts)) (sym none) h)
+
+accepted : (ts : List Tree) (cs : List Series) → flat_map (frame_refusals (alone cs)) ts ≡ [] → repeat_refusal ts ≡ [] → first_refusal (select ts) (alone cs) ≡ None
+accepted ts cs none once = λ i. first_of (none i ++ once i)
+
+-- the nodes' trees are the expressions
+pub each_node : {A : Type 0} (f : Tree → Option A) (scope : Scope) (nodes : List PhysExpr) (ts : List Tree) → map plan_of nodes ≡ map (planned_over scope) ts → each (λ n. f (plan_of n).tree) nodes ≡ each f ts
+each_node f scope [] [] h = refl
+each_node f scope [] (t ∷ ts) h = cc
+each_node f scope (n ∷ nodes) [] h = cc
+each_node f scope (n ∷ nodes) (t ∷ ts) h =
+    let one : plan_of n ≡ planned_over scope t = cc in
+    let others : map plan_of nodes ≡ map (planned_over scope) ts = cc in
+    λ i. option_and_then (λ y. option_map (λ ys. y ∷ ys) (each_node f scope nodes ts others i)) (f (one i).tree)
+
+pub flat_node : (f : Tree → List PxError) (scope : Scope) (nodes : List PhysExpr) (ts : List Tree) → map plan_of nodes ≡ map (planned_over scope) ts → flat_map (λ n. f (plan_of n).tree) nodes ≡ flat_map f ts
+flat_node f scope [] [] h = refl
+flat_node f scope [] (t ∷ ts) h = cc
+flat_node f scope (n ∷ nodes) [] h = cc
+flat_node f scope (n ∷ nodes) (t ∷ ts) h =
+    let one : plan_of n ≡ planned_over scope t = cc in
+    let others : map plan_of nodes ≡ map (planned_over scope) ts = cc in
+    λ i. f (one i).tree ++ flat_node f scope nodes ts others i
+
+-- the same over a schema that is the frame's
+pub typed_over : (scope : Scope) (cs : List Series) (ts : List Tree) → scope ≡ map column_field cs → flat_map (λ t. refusals_of t scope Default) ts ≡ flat_map (frame_refusals (alone cs)) ts
+typed_over scope cs ts e = ap (λ (s : Scope). flat_map (λ t. refusals_of t s Default) ts) e
+
+pub nodes_over : (scope : Scope) (cs : List Series) (ts : List Tree) (nodes : List PhysExpr) → scope ≡ map column_field cs → Some (map (planned_over scope) ts) ≡ Some (map plan_of nodes) → map plan_of nodes ≡ map (planned_over (map column_field cs)) ts
+nodes_over scope cs ts nodes e h = let same : map (planned_over scope) ts ≡ map plan_of nodes = cc in sym same ∙ ap (λ (s : Scope). map (planned_over s) ts) e
+
+-- why the expressions of a select step that is not refused have no values
+pub value_cause : (e : PxError) (ts : List Tree) (cs : List Series) → list_all is_built_tree ts ≡ true → flat_map (frame_refusals (alone cs)) ts ≡ [] → repeat_refusal ts ≡ []
+    → IsCauseOfAny e (map (planned_over (map column_field cs)) ts) (alone cs) → (e ≡ OutOfMemory) ⊎ IsStepCause e (select ts) (alone cs)
+value_cause e ts cs built none once c = by (any_lacks cs e ts built none c)
+  where
+    by : Lacks e (flat_map (λ t. faults_on t (alone cs)) ts) (greatest (map (λ t. size_on t (alone cs ∷ [])) ts)) → (e ≡ OutOfMemory) ⊎ IsStepCause e (select ts) (alone cs)
+    by (inl m) = inl m
+    by (inr (inl o)) = inr (inr (accepted ts cs none once, inl (one_left e (flat_map (λ t. faults_on t (alone cs)) ts ++ uneven_fault (filter_map (named_value (alone cs)) ts)) _ (one_left e (flat_map (λ t. faults_on t (alone cs)) ts) _ o))))
+    by (inr (inr l)) = inr (inr (accepted ts cs none once, inr (l.0, omega (arith, l.1))))
+
+-- the values of expressions, each of which has one
+filtered : {A B : Type 0} (f : A → Option B) (xs : List A) (ys : List B) → each f xs ≡ Some ys → filter_map f xs ≡ ys
+filtered f [] ys h = cc
+filtered {A} {B} f (x ∷ xs) ys h = by (f x) (each f xs) (filtered f xs) refl h
+  where
+    by : (o : Option B) (rest : Option (List B)) → ((zs : List B) → rest ≡ Some zs → filter_map f xs ≡ zs) → f x ≡ o → option_and_then (λ y. option_map (λ ys. y ∷ ys) rest) o ≡ Some ys → filter_map f (x ∷ xs) ≡ ys
+    by None rest more e g = cc
+    by (Some y) None more e g = cc
+    by (Some y) (Some zs) more e g = let same : y ∷ zs ≡ ys = cc in rw (e, more zs refl) same
+
+name_kept : (frame : Frame) (t : Tree) (c : NamedCell) → named_value frame t ≡ Some c → c.name ≡ name_of t
+name_kept frame t c h = by (value_on t frame) (kind_in t (scope_of frame)) h
+  where
+    by : (v : Option Cell) (k : Option Kind) → option_and_then (λ x. option_map (λ j. record { name = name_of t; kind = j; cell = x }) k) v ≡ Some c → c.name ≡ name_of t
+    by None k h = cc
+    by (Some v) None h = cc
+    by (Some v) (Some k) h = let same : record { name = name_of t; kind = k; cell = v } ≡ c = cc in ap (λ (x : NamedCell). x.name) (sym same)
+
+names_kept : (frame : Frame) (ts : List Tree) (cells : List NamedCell) → each (named_value frame) ts ≡ Some cells → map (λ c. c.name) cells ≡ map name_of ts
+names_kept frame ts cells h = made_each (named_value frame) (λ c. c.name) name_of ts cells (name_kept frame) h
+
+-- nothing stands twice
+once_none : (o : Option (List ℕ)) → option_map_or (λ n. Duplicate n ∷ []) o [] ≡ [] → o ≡ None
+once_none None h = refl
+once_none (Some n) h = cc
+
+-- memory was wanting, or a refusal that is told
+refuses_or : {Y : Type 0} (e : PxError) (r : Result Y PxError) → Refuses e r → (e ≡ OutOfMemory) ⊎ (r ≡ Err e)
+refuses_or OutOfMemory r h = inl refl
+refuses_or (ColumnNotFound n) r h = inr h
+refuses_or (Duplicate n) r h = inr h
+refuses_or (InvalidOperation w) r h = inr h
+refuses_or (ComputeError w) r h = inr h
+refuses_or OutOfBounds r h = inr h
+refuses_or ShapeMismatch r h = inr h
+refuses_or SchemaMismatch r h = inr h
+
+-- the frame of the values, or the lists that are not as long
+pub selected : (ts : List Tree) (cs : List Series) (cells : List NamedCell) (r : Result (List Series) PxError) → flat_map (frame_refusals (alone cs)) ts ≡ [] → repeat_refusal ts ≡ []
+    → each (named_value (alone cs)) ts ≡ Some cells → flat_map (λ t. faults_on t (alone cs)) ts ≡ [] → Answers r (assembled cells) → StepAnswers r (select ts) cs
+selected ts cs cells r none once values sound a = by r a
+  where
+    distinct : first_repeat [] (map (λ c. c.name) cells) ≡ None
+    distinct = ap (first_repeat []) (names_kept (alone cs) ts cells values) ∙ once_none (first_repeat [] (map name_of ts)) once
+
+    whole : assembled cells ≡ spread_all (rows_beside (map (λ c. c.cell) cells)) cells
+    whole = ap (λ o. unless_repeated o (spread_all (rows_beside (map (λ c. c.cell) cells)) cells)) distinct
+
+    uneven : (q : Result (List Series) PxError) → assembled cells ≡ q → uneven_fault (filter_map (named_value (alone cs)) ts) ≡ refused_by q
+    uneven q e = ap uneven_fault (filtered (named_value (alone cs)) ts cells values) ∙ ap refused_by (sym whole ∙ e)
+
+    made : (f : List Series) → assembled cells ≡ Ok f → step_on (select ts) (alone cs) ≡ Some (alone f)
+    made f e =
+        ap (λ o. option_map (λ columns. record (alone cs) { columns = columns }) (option_and_then (λ xs. result_ok (assembled xs)) o)) values
+        ∙ ap (λ q. option_map (λ columns. record (alone cs) { columns = columns }) (result_ok q)) e
+
+    fault : (e : PxError) → (e ≡ OutOfMemory) ⊎ (assembled cells ≡ Err e) → (e ≡ OutOfMemory) ⊎ IsStepCause e (select ts) (alone cs)
+    fault e (inl m) = inl m
+    fault e (inr f) =
+        inr (inr (
+          accepted ts cs none once,
+          inl (one_left e (flat_map (λ t. faults_on t (alone cs)) ts ++ uneven_fault (filter_map (named_value (alone cs)) ts)) (misfit_faults (alone cs) ts)
+              (one_right e (flat_map (λ t. faults_on t (alone cs)) ts) _ (subst (IsOneOf e) (sym (uneven (Err e) f)) (inl refl)))),
+        ))
+
+    by : (q : Result (List Series) PxError) → Answers q (assembled cells) → StepAnswers q (select ts) cs
+    by (Ok f) h = (record { accepted = accepted ts cs none once; sound = λ i. (sound i ++ uneven (Ok f) h i) ++ no_misfits cs ts i }, made f h)
+    by (Err e) h = fault e (refuses_or e (assembled cells) h)

@@ -1,0 +1,17 @@
+use Rattle.std.proofs.Common.{◌≡◌, ◌+◌, List, Result, drop, map, true}
+use Rattle.std.specs.List.{list_all}
+use Rattle.px_column.specs.Series.{Series}
+use Rattle.px_column.specs.declared.error.PxError.{PxError}
+use Rattle.px_steps.specs.Built.{is_built}
+use Rattle.px_steps.specs.Causes.{StepsAnswer}
+use Rattle.px_steps.specs.Plain.{groupings_of}
+use Rattle.px_steps.specs.Step.{step_view}
+use Rattle.px_steps.proofs.runner.run_each.Given as goal
+
+abbrev pub invariant-loop-step : goal.invariant-loop-step
+invariant-loop-step g l = record {
+  built : list_all is_built (map step_view (drop l.step-index l.steps)) ≡ true;
+  answer : (r : Result (List Series) PxError) → StepsAnswer r (map step_view (drop l.step-index l.steps)) l.frame → StepsAnswer r (map step_view l.steps) l.initial.frame;
+  state : l.state ≡ l.initial.state;
+  grouped : l.groupings + groupings_of (map step_view (drop l.step-index l.steps)) ≡ l.initial.groupings + groupings_of (map step_view l.steps);
+}

@@ -1,0 +1,16 @@
+use Rattle.std.proofs.Common.{◌≡◌, ◌++◌, map, drop, true}
+use Rattle.std.specs.List.{flat_map, list_all}
+use Rattle.px_expr.specs.Built.{is_built_tree}
+use Rattle.px_expr.specs.NodeView.{plan_of}
+use Rattle.px_expr.specs.Plan.{planned_over}
+use Rattle.px_plan.specs.Typing.{refusals_of}
+use Rattle.px_plan.specs.View.{tree}
+use Rattle.px_plan.specs.declared.context.Context.TheVariants.{Default}
+use Rattle.px_steps.proofs.select_step.all_planned.Given as goal
+
+abbrev pub invariant-loop-expr : goal.invariant-loop-expr
+invariant-loop-expr l = record {
+  built : list_all is_built_tree (map tree (drop l.expr-index l.exprs)) ≡ true;
+  refused : flat_map (λ t. refusals_of t l.schema.value Default) (map tree (drop l.expr-index l.exprs)) ≡ flat_map (λ t. refusals_of t l.schema.value Default) (map tree l.exprs);
+  made : map plan_of l.nodes.items ++ map (planned_over l.schema.value) (map tree (drop l.expr-index l.exprs)) ≡ map (planned_over l.schema.value) (map tree l.exprs);
+}

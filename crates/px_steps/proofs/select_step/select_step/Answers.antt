@@ -1,0 +1,55 @@
+use Rattle.std.proofs.Common.{◌≡◌, ◌∙◌, List, map, ap, sym, subst}
+use Rattle.std.proofs.lemmas.Result.{err_from_is_err_and}
+use Rattle.px_column.specs.declared.error.PxError.{PxError}
+use Rattle.px_expr.specs.Planned.{Planned}
+use Rattle.px_frame.specs.CellView.{named_cell}
+use Rattle.px_frame.specs.External.{alone}
+use Rattle.px_frame.specs.Schema.{column_field}
+use Rattle.px_plan.specs.Value.{faults_on}
+use Rattle.px_plan.specs.View.{tree}
+use Rattle.px_steps.specs.Causes.{IsCauseOfAny}
+use Rattle.px_steps.specs.Meets.{IsFirst}
+use Rattle.px_steps.specs.Plain.{named_value}
+use Rattle.px_steps.proofs.Selected.{typing_cause, naming_cause, value_cause, selected, typed_over, nodes_over, each_node, flat_node}
+use Rattle.px_steps.proofs.select_step.select_step.Goals as goal
+
+pub returns-in_err-nodes-clause-answer : goal.returns-in_err-nodes-clause-answer
+returns-in_err-nodes-clause-answer g c =
+    let p = err_from_is_err_and c.from_residual-in_err-nodes.result c.from_residual-in_err-nodes.ensures.1 in
+    let cs = c.args.frame.now in
+    let ts = map tree c.args.exprs.now in
+    let e = c.in_err-nodes.field-0.0 in
+    let scope : c.in_ok-schema-2.schema.value ≡ map column_field cs = cc (c.in_ok-schema.ensures, c.in_ok-schema-2.ensures.ok) in
+    rw (p.1, p.2) (typing_cause e ts cs (subst (λ (es : List PxError). IsFirst e es) (typed_over c.in_ok-schema-2.schema.value cs ts scope) c.in_err-nodes.ensures))
+
+pub returns-in_err-distinct_names-clause-answer : goal.returns-in_err-distinct_names-clause-answer
+returns-in_err-distinct_names-clause-answer g c =
+    let p = err_from_is_err_and c.from_residual-in_err-distinct_names.result c.from_residual-in_err-distinct_names.ensures.1 in
+    let cs = c.args.frame.now in
+    let ts = map tree c.args.exprs.now in
+    let scope : c.in_ok-schema-2.schema.value ≡ map column_field cs = cc (c.in_ok-schema.ensures, c.in_ok-schema-2.ensures.ok) in
+    rw (p.1, p.2) (naming_cause c.in_err-distinct_names.field-0.0 ts cs (sym (typed_over c.in_ok-schema-2.schema.value cs ts scope) ∙ c.in_ok-nodes.ensures.0) c.in_err-distinct_names.ensures)
+
+pub returns-in_err-cells-clause-answer : goal.returns-in_err-cells-clause-answer
+returns-in_err-cells-clause-answer g c =
+    let p = err_from_is_err_and c.from_residual-in_err-cells.result c.from_residual-in_err-cells.ensures.1 in
+    let cs = c.args.frame.now in
+    let ts = map tree c.args.exprs.now in
+    let scope : c.in_ok-schema-2.schema.value ≡ map column_field cs = cc (c.in_ok-schema.ensures, c.in_ok-schema-2.ensures.ok) in
+    let nodes = nodes_over c.in_ok-schema-2.schema.value cs ts c.in_ok-nodes.nodes.items scope c.in_ok-nodes.ensures.1 in
+    rw (p.1, p.2)
+    (value_cause c.in_err-cells.field-0.0 ts cs c.requires (sym (typed_over c.in_ok-schema-2.schema.value cs ts scope) ∙ c.in_ok-nodes.ensures.0) c.in_ok-distinct_names.ensures.0
+    (subst (λ (ps : List Planned). IsCauseOfAny c.in_err-cells.field-0.0 ps (alone cs)) nodes (rw c.deref.ensures.value at c.in_err-cells.ensures.causes)))
+
+pub returns-clause-answer : goal.returns-clause-answer
+returns-clause-answer g c =
+    let cs = c.args.frame.now in
+    let ts = map tree c.args.exprs.now in
+    let scope : c.in_ok-schema-2.schema.value ≡ map column_field cs = cc (c.in_ok-schema.ensures, c.in_ok-schema-2.ensures.ok) in
+    let nodes = nodes_over c.in_ok-schema-2.schema.value cs ts c.in_ok-nodes.nodes.items scope c.in_ok-nodes.ensures.1 in
+    let over = map column_field cs in
+    let items = c.in_ok-nodes.nodes.items in
+    selected ts cs (map named_cell c.in_ok-cells.cells.items) c.assemble.result (sym (typed_over c.in_ok-schema-2.schema.value cs ts scope) ∙ c.in_ok-nodes.ensures.0) c.in_ok-distinct_names.ensures.0
+    (sym (each_node (named_value (alone cs)) over items ts nodes) ∙ (rw c.deref.ensures.value at c.in_ok-cells.ensures.values))
+    (sym (flat_node (λ t. faults_on t (alone cs)) over items ts nodes) ∙ (rw c.deref.ensures.value at c.in_ok-cells.ensures.sound))
+    c.assemble.ensures

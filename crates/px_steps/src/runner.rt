@@ -1,0 +1,95 @@
+//! Steps run one after another.
+ghost use Rattle.std.specs.Prelude.{◌≡◌, ◌+◌, Some, IfOk, IfErr, OnOk, map, true};
+ghost use Rattle.std.specs.List.{list_all};
+ghost use Rattle.px_column.specs.declared.error.PxError.TheVariants.{OutOfMemory};
+ghost use Rattle.px_frame.specs.External.{alone};
+ghost use Rattle.px_steps.specs.Built.{is_built};
+ghost use Rattle.px_steps.specs.Causes.{AreSound, IsCauseIn, StepAnswers, StepsAnswer};
+ghost use Rattle.px_steps.specs.Plain.{AreValid, groupings_in, groupings_of, plain_on};
+ghost use Rattle.px_steps.specs.Step.{step_view};
+
+use crate::group_step::group_step;
+use crate::select_step::select_step;
+use crate::step::Step;
+use px_column::{Px, Steps};
+use px_frame::DataFrame;
+use px_window::ExecutionState;
+use std::alloc::Global;
+use std::sync::ledger::Ledger;
+
+/// The frame that a step makes, or why there is none.
+fn run_step<L: Ledger, M: Ledger>(
+    alloc: Global,
+    frame: &DataFrame,
+    step: &Step,
+    state: &mut ExecutionState,
+    kernels: &mut Steps<L>,
+    groupings: &mut Steps<M>,
+) -> Px<DataFrame>
+    requires { is_built (step_view step.now) ≡ true }
+    ensures answer { StepAnswers result (step_view step.now) frame.now }
+    ensures state { state.new ≡ state.old }
+    ensures grouped { OnOk result (groupings.new ≡ groupings.old + groupings_in (step_view step.now)) }
+{
+    let _columns = frame.get_columns();
+    match step {
+        Step::Select(exprs) => select_step(alloc, frame, exprs, state, kernels, groupings),
+        Step::GroupAgg { keys, aggs, .. } => {
+            group_step(alloc, frame, keys, aggs, kernels, groupings)
+        }
+        Step::Filter(_) => unreachable!(),
+    }
+}
+
+/// The frame that the steps make of this one, or why there is none.
+fn run_each<L: Ledger, M: Ledger>(
+    alloc: Global,
+    frame: DataFrame,
+    steps: &[Step],
+    state: &mut ExecutionState,
+    kernels: &mut Steps<L>,
+    groupings: &mut Steps<M>,
+) -> Px<DataFrame>
+    requires { list_all is_built (map step_view steps.now) ≡ true }
+    ensures answer { StepsAnswer result (map step_view steps.now) frame }
+    ensures state { state.new ≡ state.old }
+    ensures grouped { OnOk result (groupings.new ≡ groupings.old + groupings_of (map step_view steps.now)) }
+{
+    let mut frame = frame;
+    for step in steps {
+        frame = run_step(alloc, &frame, step, state, kernels, groupings)?;
+    }
+    Ok(frame)
+}
+
+/// The frame that the steps make, each from the frame of those before it; with no step an equal frame.
+/// The first step that is refused, has a fault or has 2^32 values or more decides, and no step after
+/// it is run; what is told of it is its first refusal, or else one of its faults, or `TooLong`.
+pub fn run_steps<L: Ledger, M: Ledger>(
+    alloc: Global,
+    frame: &DataFrame,
+    steps: &[Step],
+    state: &mut ExecutionState,
+    kernels: &mut Steps<L>,
+    groupings: &mut Steps<M>,
+) -> Px<DataFrame>
+    requires built { list_all is_built (map step_view steps.now) ≡ true }
+    // The frame is the one that the steps mean, and no step is refused or has a fault.
+    ensures plain { IfOk result (λ f. plain_on (map step_view steps.now) (alone frame.now) ≡ Some (alone f)) }
+    ensures sound { OnOk result (AreSound (map step_view steps.now) (alone frame.now)) }
+    // What is told stands at a step that is reached, or memory was wanting.
+    ensures causes { IfErr result (λ e. IsCauseIn e (map step_view steps.now) (alone frame.now)) }
+    // Valid steps make their frame, where memory is not wanting.
+    ensures complete { AreValid (map step_view steps.now) (alone frame.now) → IfErr result (λ e. e ≡ OutOfMemory) }
+    ensures state { state.new ≡ state.old }
+    // Groups are formed once for each group step.
+    ensures grouped { OnOk result (groupings.new ≡ groupings.old + groupings_of (map step_view steps.now)) }
+{
+    match steps {
+        [] => frame.try_clone(alloc),
+        [first, rest @ ..] => {
+            let made = run_step(alloc, frame, first, state, kernels, groupings)?;
+            run_each(alloc, made, rest, state, kernels, groupings)
+        }
+    }
+}

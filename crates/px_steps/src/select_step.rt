@@ -1,0 +1,144 @@
+//! A select step: the columns of some expressions, side by side.
+ghost use Rattle.std.specs.Prelude.{◌≡◌, [], Some, IfOk, IfErr, OnOk, map, true};
+ghost use Rattle.std.specs.List.{flat_map, list_all};
+ghost use Rattle.px_column.specs.Option.{each};
+ghost use Rattle.px_expr.specs.Built.{is_built_tree};
+ghost use Rattle.px_expr.specs.NodeView.{plan_of};
+ghost use Rattle.px_expr.specs.Plan.{planned_over};
+ghost use Rattle.px_expr.specs.Value.{IsCause};
+ghost use Rattle.px_frame.specs.CellView.{named_cell};
+ghost use Rattle.px_frame.specs.External.{alone};
+ghost use Rattle.px_plan.specs.Typing.{refusals_of};
+ghost use Rattle.px_plan.specs.Value.{faults_on};
+ghost use Rattle.px_plan.specs.View.{tree};
+ghost use Rattle.px_plan.specs.declared.context.Context.TheVariants.{Default};
+ghost use Rattle.px_steps.specs.Causes.{IsCauseOfAny, StepAnswers};
+ghost use Rattle.px_steps.specs.Meets.{Meets, MeetsBy};
+ghost use Rattle.px_steps.specs.Plain.{named_value, repeat_refusal};
+ghost use Rattle.px_steps.specs.Step.{select};
+
+use indexmap::IndexSet;
+use px_column::{Px, PxError, Steps};
+use px_expr::{ExpressionConversionState, PhysExpr, PhysicalExpr, create_physical_expr};
+use px_frame::{Cell, DataFrame, SchemaRef, UnitColumn, add_name, assemble};
+use px_plan::{Arena, Context, Expr, ExprIR, fits_arena, output_name, to_arena};
+use px_window::ExecutionState;
+use std::alloc::Global;
+use std::rc::Rc;
+use std::sync::ledger::Ledger;
+
+/// The node of an expression over a schema, or its first refusal.
+#[tactic(auto, using(crate::proofs::Selected::planned_meets))]
+fn planned(alloc: Global, expr: &Expr, schema: &SchemaRef) -> Px<PhysExpr>
+    requires { is_built_tree (tree expr.now) ≡ true }
+    ensures { MeetsBy plan_of result (refusals_of (tree expr.now) schema.now.value Default) (Some (planned_over schema.now.value (tree expr.now))) }
+{
+    let mut arena = Arena::new(alloc)?;
+    if !fits_arena(expr, &arena) {
+        return Err(PxError::OutOfMemory);
+    }
+    let node = to_arena(alloc, expr, &mut arena)?;
+    let expr_ir = ExprIR::new(node, None);
+    let mut noted = ExpressionConversionState::new(0);
+    create_physical_expr(
+        alloc,
+        &expr_ir,
+        Context::Default,
+        &arena,
+        schema,
+        &mut noted,
+    )
+}
+
+/// The nodes of some expressions over a schema, or the first refusal from the left.
+#[tactic(auto, using(crate::proofs::Named::IsFirst_append))]
+fn all_planned(alloc: Global, exprs: &[Expr], schema: &SchemaRef) -> Px<Vec<PhysExpr>>
+    requires { list_all is_built_tree (map tree exprs.now) ≡ true }
+    ensures { MeetsBy (λ v. map plan_of v.items) result (flat_map (λ t. refusals_of t schema.now.value Default) (map tree exprs.now))
+        (Some (map (planned_over schema.now.value) (map tree exprs.now))) }
+{
+    let mut nodes = Vec::with_capacity(alloc, exprs.len())?;
+    for expr in exprs {
+        nodes.push(planned(alloc, expr, schema)?)?;
+    }
+    Ok(nodes)
+}
+
+/// Nothing, unless a name stands twice.
+fn distinct_names(alloc: Global, exprs: &[Expr]) -> Px<()>
+    ensures { Meets result (repeat_refusal (map tree exprs.now)) (Some tt) }
+{
+    let mut names = IndexSet::new(alloc);
+    for expr in exprs {
+        add_name(alloc, &mut names, &output_name(alloc, expr)?)?;
+    }
+    Ok(())
+}
+
+/// The value of a planned expression, as one value or one for each of some rows.
+fn cell_on<L: Ledger, M: Ledger>(
+    alloc: Global,
+    frame: &DataFrame,
+    node: &PhysExpr,
+    state: &mut ExecutionState,
+    kernels: &mut Steps<L>,
+    groupings: &mut Steps<M>,
+) -> Px<Cell>
+    ensures value { IfOk result (λ c. named_value (alone frame.now) (plan_of node.now).tree ≡ Some (named_cell c)) }
+    ensures sound { OnOk result (faults_on (plan_of node.now).tree (alone frame.now) ≡ []) }
+    ensures causes { IfErr result (λ e. IsCause e (plan_of node.now) (alone frame.now)) }
+    ensures state { state.new ≡ state.old }
+    ensures grouped { groupings.new ≡ groupings.old }
+{
+    let column = node.evaluate(alloc, frame, state, kernels, groupings)?;
+    if node.is_scalar() {
+        Ok(Cell::Unit(UnitColumn::new(column)))
+    } else {
+        Ok(Cell::Rows(column))
+    }
+}
+
+/// The values of some planned expressions.
+fn cells_on<L: Ledger, M: Ledger>(
+    alloc: Global,
+    frame: &DataFrame,
+    nodes: &[PhysExpr],
+    state: &mut ExecutionState,
+    kernels: &mut Steps<L>,
+    groupings: &mut Steps<M>,
+) -> Px<Vec<Cell>>
+    ensures values { IfOk result (λ v. each (λ n. named_value (alone frame.now) (plan_of n).tree) nodes.now ≡ Some (map named_cell v.items)) }
+    ensures sound { OnOk result (flat_map (λ n. faults_on (plan_of n).tree (alone frame.now)) nodes.now ≡ []) }
+    ensures causes { IfErr result (λ e. IsCauseOfAny e (map plan_of nodes.now) (alone frame.now)) }
+    ensures state { state.new ≡ state.old }
+    ensures grouped { groupings.new ≡ groupings.old }
+{
+    let mut cells = Vec::with_capacity(alloc, nodes.len())?;
+    for node in nodes {
+        cells.push(cell_on(alloc, frame, node, state, kernels, groupings)?)?;
+    }
+    Ok(cells)
+}
+
+/// The columns of these expressions side by side. All expressions are typed before the first is
+/// evaluated: the first refusal from the left, then `Duplicate` with the first name that stands
+/// twice, then the faults of values, and `ShapeMismatch` where lists differ in length.
+pub(crate) fn select_step<L: Ledger, M: Ledger>(
+    alloc: Global,
+    frame: &DataFrame,
+    exprs: &[Expr],
+    state: &mut ExecutionState,
+    kernels: &mut Steps<L>,
+    groupings: &mut Steps<M>,
+) -> Px<DataFrame>
+    requires { list_all is_built_tree (map tree exprs.now) ≡ true }
+    ensures answer { StepAnswers result (select (map tree exprs.now)) frame.now }
+    ensures state { state.new ≡ state.old }
+    ensures grouped { groupings.new ≡ groupings.old }
+{
+    let schema = Rc::new(alloc, frame.schema(alloc)?)?;
+    let nodes = all_planned(alloc, exprs, &schema)?;
+    distinct_names(alloc, exprs)?;
+    let cells = cells_on(alloc, frame, &nodes, state, kernels, groupings)?;
+    assemble(alloc, cells)
+}
