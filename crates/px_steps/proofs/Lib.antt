@@ -5,10 +5,9 @@ pub mod Separated
 pub mod Named
 pub mod Columns
 pub mod KeyLoop
-pub mod DocumentSteps
-pub mod FormLaws
-pub mod FormBack
-pub mod ReadText
+pub mod OnlyIf
+pub mod Forms
+pub mod StepForms
 pub mod Replied
 pub mod StepLoop
 pub mod Endings

@@ -11,7 +11,7 @@ pub mod Fault
 pub mod Plain
 pub mod Direct
 pub mod Built
-pub mod BuiltDocument
+pub mod Readable
 pub mod DocumentText
 pub mod DirectLaws
 pub mod Reply
