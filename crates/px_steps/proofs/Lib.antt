@@ -8,6 +8,7 @@ pub mod KeyLoop
 pub mod OnlyIf
 pub mod Forms
 pub mod StepForms
+pub mod OnLiterals
 pub mod Replied
 pub mod StepLoop
 pub mod Endings
