@@ -8,10 +8,10 @@ pub mod CellLoop
 pub mod Grouped
 pub mod Columns
 pub mod KeyLoop
-pub mod DocumentSteps
-pub mod FormLaws
-pub mod FormBack
-pub mod ReadText
+pub mod OnlyIf
+pub mod Forms
+pub mod StepForms
+pub mod OnLiterals
 pub mod Replied
 pub mod StepLoop
 pub mod Endings

@@ -1,18 +1,15 @@
 -- What a document says: columns, and the steps that are done with them.
-use Rattle.std.specs.Prelude.{◌≡◌, ℕ, zero, suc, ◌+◌, ◌-◌, ◌*◌, ◌^◌, ◌<◌, ◌==◌, ◌&&◌, Bool, false, List, [], ◌∷◌, length, take, drop, nat_lt, Option, Some, None, is_some, map, option_map, option_and_then, unwrap_or, if◌then◌else◌, codes, IsUtf8}
+use Rattle.std.specs.Prelude.{ℕ, zero, suc, ◌+◌, ◌-◌, ◌*◌, ◌^◌, ◌&&◌, List, [], ◌∷◌, length, take, drop, nat_lt, Option, Some, None, is_some, map, option_map, if◌then◌else◌, codes}
 use Rattle.std.specs.Option.{option_or}
 use Rattle.std.specs.Str.{bytes_eq}
 use Rattle.serde_json.specs.Data.{Data}
 use Rattle.serde_json.specs.Find.{as_null, as_bool, as_number, as_str, as_integer}
-use Rattle.serde_json.specs.Read.{read}
 use Rattle.px_column.specs.Datum.{Datum, boolean, integer, text, bytes, list, Slot, slots}
 use Rattle.px_column.specs.Kind.{Kind, booleans, int8s, int16s, int32s, int64s, uint8s, uint16s, uint32s, uint64s, strings, binaries, nulls, lists, slots_fit}
 use Rattle.px_column.specs.Series.{Series}
-use Rattle.px_column.specs.declared.method.GroupByMethod.TheVariants.{Sum}
-use Rattle.px_plan.specs.Tree.{Tree, column, agg, len}
 use Rattle.px_column.specs.Option.{◌>>=◌, each}
-use Rattle.px_steps.specs.Form.{items, fields, field}
-use Rattle.px_steps.specs.Step.{PlainStep, group, step_view}
+use Rattle.px_steps.specs.Form.{items, fields}
+use Rattle.px_steps.specs.Step.{PlainStep, step_view}
 use Rattle.px_steps.specs.declared.document.parsed.Parsed.{Parsed}
 
 -- the type of a name, where it is no type of lists
@@ -104,70 +101,11 @@ column_of_parts _ = None
 abbrev pub column_of : Data → Option Series
 column_of d = fields (codes "name" ∷ codes "type" ∷ codes "values" ∷ []) d >>= column_of_parts
 
--- {"col": text}
-abbrev pub key_of : Data → Option Tree
-key_of d = option_map column (field (codes "col") d >>= as_str)
-
--- the text `Sum`
-abbrev pub is_sum : Data → Bool
-is_sum d = unwrap_or (option_map (λ s. bytes_eq s (codes "Sum")) (as_str d)) false
-
--- the reduction's name, and the column
-abbrev pub reduction_of_parts : List Data → Option Tree
-reduction_of_parts (m ∷ k ∷ []) = if is_sum m then option_map (agg Sum) (key_of k) else None
-reduction_of_parts _ = None
-
--- {"agg": ["Sum", {"col": text}]}
-abbrev pub reduction_of : Data → Option Tree
-reduction_of d = field (codes "agg") d >>= items >>= reduction_of_parts
-
--- {"len": null}
-abbrev pub is_len : Data → Bool
-is_len d = is_some (field (codes "len") d >>= as_null)
-
--- an aggregation is the one or the other
-abbrev pub agg_of : Data → Option Tree
-agg_of d = if is_len d then Some len else reduction_of d
-
--- keys, aggregations, and no chunk lengths
-abbrev pub group_of_parts : List Data → Option PlainStep
-group_of_parts (k ∷ a ∷ c ∷ []) = do
-  keys ← items k >>= each key_of
-  aggs ← items a >>= each agg_of
-  option_map (λ _. group keys aggs None) (as_null c)
-group_of_parts _ = None
-
--- {"group": {"keys": [..], "aggs": [..], "chunks": null}}
-abbrev pub step_of : Data → Option PlainStep
-step_of d = field (codes "group") d >>= fields (codes "keys" ∷ codes "aggs" ∷ codes "chunks" ∷ []) >>= group_of_parts
-
--- exactly one step
-abbrev pub steps_of : List Data → Option (List PlainStep)
-steps_of ds = if length ds == 1 then each step_of ds else None
-
 -- a document: its columns and its steps, in their order
 pub record Doc : Type 0 where
   pub columns : List Series
   pub steps : List PlainStep
 
--- an array of columns, and an array of exactly one step
-abbrev pub document_of_parts : List Data → Option Doc
-document_of_parts (c ∷ s ∷ []) = do
-  columns ← items c >>= each column_of
-  steps ← items s >>= steps_of
-  Some (record { columns = columns; steps = steps })
-document_of_parts _ = None
-
--- {"columns": [..], "steps": [..]}
-abbrev pub document_of : Data → Option Doc
-document_of d = fields (codes "columns" ∷ codes "steps" ∷ []) d >>= document_of_parts
-
 -- the document that was read
 abbrev pub doc_view : Parsed → Doc
 doc_view p = record { columns = p.columns.items; steps = map step_view p.steps.items }
-
--- the bytes are JSON in UTF-8 that says this document in the forms that are read, and there are fewer than 2^26 of them
-pub record IsReadText (bytes : List ℕ) (doc : Doc) : Type 0 where
-  pub short : length bytes < 2 ^ 26
-  pub utf8 : IsUtf8 bytes
-  pub says : option_and_then document_of (read bytes) ≡ Some doc

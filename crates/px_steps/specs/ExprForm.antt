@@ -2,7 +2,7 @@
 use Rattle.std.specs.Prelude.{ℕ, zero, suc, ℤ, Bool, false, List, [], ◌∷◌, Option, Some, None, codes, is_some, option_map, unwrap_or, if◌then◌else◌}
 use Rattle.std.specs.Option.{option_or}
 use Rattle.std.specs.Str.{bytes_eq}
-use Rattle.serde_json.specs.Data.{Data, depth}
+use Rattle.serde_json.specs.Data.{Data}
 use Rattle.serde_json.specs.Find.{as_null, as_bool, as_number, as_str, as_i64}
 use Rattle.px_column.specs.Datum.{Slot}
 use Rattle.px_column.specs.Kind.{Kind, nulls, fits, is_list_kind}
@@ -248,7 +248,7 @@ module _ (expr : Data → Option Tree) where
   window_parts _ = None
 
   -- the forms, each under its key
-  abbrev pub expr_form : Data → Option Tree
+  unfoldable pub expr_form : Data → Option Tree
   expr_form d =
       option_or (option_map column (field (codes "col") d >>= as_str))
       (option_or (option_map literal (field (codes "lit") d >>= fields (codes "type" ∷ codes "value" ∷ []) >>= literal_parts))
@@ -269,11 +269,11 @@ module _ (expr : Data → Option Tree) where
       (option_or (option_map (λ _. len) (field (codes "len") d >>= as_null))
       (field (codes "over") d >>= fields (codes "function" ∷ codes "keys" ∷ codes "order" ∷ codes "mapping" ∷ []) >>= window_parts)))))))))))))))))
 
--- an expression in data that nest at most n deep
+-- an expression with at most n expressions inside one another
 abbrev pub expr_within : ℕ → Data → Option Tree
 expr_within zero d = None
 expr_within (suc n) d = expr_form (expr_within n) d
 
--- what data say as an expression
-abbrev pub expr_of : Data → Option Tree
-expr_of d = expr_within (depth d) d
+-- what data say as an expression. JSON that is read nests at most 127 deep, so that 128 levels reach every expression
+unfoldable pub expr_of : Data → Option Tree
+expr_of d = expr_within 128 d

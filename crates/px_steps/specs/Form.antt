@@ -1,6 +1,6 @@
 -- How a document's data is taken apart, and how a reader's answer is told.
 use Rattle.std.specs.Prelude.{◌≡◌, ℕ, suc, ◌==◌, Bool, false, List, [], ◌∷◌, ◌++◌, length, Option, Some, None, option_map, unwrap_or, if◌then◌else◌, Result, Ok, Err}
-use Rattle.serde_json.specs.Data.{Data, Items, no_items, item, Members, no_members, member}
+use Rattle.serde_json.specs.Data.{Data, object, Items, no_items, item, Members, no_members, member}
 use Rattle.serde_json.specs.Find.{get, as_array, as_object}
 use Rattle.px_column.specs.Option.{◌>>=◌, each}
 use Rattle.px_steps.specs.declared.document.fault.DocumentFault.{DocumentFault}
@@ -40,6 +40,15 @@ fields keys d = if has_members (length keys) d then each (λ k. get k d) keys el
 -- the value of an object whose only key is k
 abbrev pub field : List ℕ → Data → Option Data
 field k d = fields (k ∷ []) d >>= only
+
+-- the object of this one member
+abbrev pub single_member : List ℕ → Data → Data
+single_member k d = object (member k d no_members)
+
+-- the key and the value of an object of one member
+abbrev pub only_member : Data → Option (List ℕ × Data)
+only_member (object (member k d no_members)) = Some (k, d)
+only_member _ = None
 
 -- there is nothing to read, or memory was wanting
 abbrev pub Misses : {Y : Type 0} → DocumentFault → Option Y → Type 0

@@ -26,7 +26,7 @@ group_parts (k ∷ a ∷ c ∷ []) = do
 group_parts _ = None
 
 -- {"select": [e..]}, {"filter": e} or {"group": {"keys": [e..], "aggs": [e..], "chunks": c}}
-abbrev pub any_step_of : Data → Option PlainStep
+unfoldable pub any_step_of : Data → Option PlainStep
 any_step_of d =
     option_or (option_map select (field (codes "select") d >>= items >>= each expr_of))
     (option_or (option_map filter (field (codes "filter") d >>= expr_of))

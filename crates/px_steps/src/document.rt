@@ -2,11 +2,13 @@
 ghost use Rattle.std.specs.Prelude.{◌≡◌, IfOk, Ok, Err, Some, None, IsUtf8};
 ghost use Rattle.serde_json.specs.Read.{read as read_text};
 ghost use Rattle.serde_json.specs.View.{view};
-ghost use Rattle.px_steps.specs.Document.{Doc, IsReadText, doc_view, document_of};
+ghost use Rattle.px_steps.specs.Document.{Doc, doc_view};
 ghost use Rattle.px_steps.specs.DocumentText.{IsDocumentText};
 ghost use Rattle.px_steps.specs.Form.{ReadsBy};
 ghost use Rattle.px_steps.specs.DocumentView.{document_view};
+ghost use Rattle.px_steps.specs.Readable.{is_readable_document, only_if};
 ghost use Rattle.px_steps.specs.Reply.{IsDocument};
+ghost use Rattle.px_steps.specs.StepForm.{any_document_of};
 ghost use Rattle.px_steps.specs.declared.document.fault.DocumentFault.TheVariants.{BadDocument};
 
 mod column;
@@ -14,6 +16,7 @@ mod expr;
 mod fault;
 mod fields;
 mod hexadecimal;
+mod literal;
 mod parsed;
 mod place;
 mod step;
@@ -54,7 +57,7 @@ fn read_json(alloc: Global, bytes: &[u8]) -> Result<Value, DocumentFault>
 }
 
 fn read_parts(alloc: Global, value: &Value) -> Result<Parsed, DocumentFault>
-    ensures { ReadsBy doc_view result (document_of (view value.now)) }
+    ensures { ReadsBy doc_view result (only_if is_readable_document (any_document_of (view value.now))) }
 {
     let fields = two_fields(value, "columns", "steps");
     let (columns, steps) = fields.ok_or(DocumentFault::BadDocument)?;
@@ -65,25 +68,17 @@ fn read_parts(alloc: Global, value: &Value) -> Result<Parsed, DocumentFault>
 
 /// The columns and steps that a text says: JSON in UTF-8, of fewer than 2^26 bytes, with exactly the
 /// members that are told; else `BadDocument`.
-fn parse_text(alloc: Global, bytes: &[u8]) -> Result<Parsed, DocumentFault>
+fn parse_document(alloc: Global, bytes: &[u8]) -> Result<Parsed, DocumentFault>
     // What is read is what the text says.
-    ensures found { IfOk result (λ p. IsReadText bytes.now (doc_view p)) }
+    ensures found { IfOk result (λ p. IsDocumentText bytes.now (doc_view p)) }
     // A text that is refused says nothing.
-    ensures refused { result ≡ Err BadDocument → (d : Doc) → IsReadText bytes.now d → ⊥ }
+    ensures refused { result ≡ Err BadDocument → (d : Doc) → IsDocumentText bytes.now d → ⊥ }
 {
     if bytes.len() >= SIZE_LIMIT {
         return Err(DocumentFault::BadDocument);
     }
     let value = read_json(alloc, bytes)?;
     read_parts(alloc, &value)
-}
-
-/// The same, told among all forms of a document.
-fn parse_document(alloc: Global, bytes: &[u8]) -> Result<Parsed, DocumentFault>
-    ensures found { IfOk result (λ p. IsDocumentText bytes.now (doc_view p)) }
-    ensures refused { result ≡ Err BadDocument → (d : Doc) → IsDocumentText bytes.now d → ⊥ }
-{
-    parse_text(alloc, bytes)
 }
 
 /// The document that some bytes say: JSON in UTF-8 (RFC 8259), of fewer than 2^26 bytes, with exactly

@@ -3,11 +3,8 @@ use Rattle.std.specs.Prelude.{ℕ, List, [], ◌∷◌, ◌++◌, codes}
 use Rattle.serde_json.specs.Data.{Data, null, number, string, array, object, unsigned, Items, no_items, item, Members, no_members, member}
 use Rattle.px_plan.specs.Tree.{len}
 use Rattle.px_steps.specs.Document.{Doc}
+use Rattle.px_steps.specs.Form.{single_member}
 use Rattle.px_vectors.specs.Worked.{four_rows, sum_column, by_k}
-
--- an object of one member
-abbrev pub only_member : List ℕ → Data → Data
-only_member key d = object (member key d no_members)
 
 -- an array of some numbers
 abbrev pub numbers_data : List ℕ → Items
@@ -20,17 +17,17 @@ column_data name values = object (member (codes "name") (string name) (member (c
 
 -- the column of a name
 abbrev pub col_data : List ℕ → Data
-col_data name = only_member (codes "col") (string name)
+col_data name = single_member (codes "col") (string name)
 
 -- the sum of x, and the number of rows
 abbrev pub aggs_data : Items
 aggs_data =
-    item (only_member (codes "agg") (array (item (string (codes "Sum")) (item (col_data (codes "x")) no_items))))
-    (item (only_member (codes "len") null) no_items)
+    item (single_member (codes "agg") (array (item (string (codes "Sum")) (item (col_data (codes "x")) no_items))))
+    (item (single_member (codes "len") null) no_items)
 
 -- a group step with these members beside its keys
 abbrev pub group_data : Members → Data
-group_data more = only_member (codes "group") (object (member (codes "aggs") (array aggs_data) (member (codes "chunks") null (member (codes "keys") (array (item (col_data (codes "k")) no_items)) more))))
+group_data more = single_member (codes "group") (object (member (codes "aggs") (array aggs_data) (member (codes "chunks") null (member (codes "keys") (array (item (col_data (codes "k")) no_items)) more))))
 
 -- the columns k and x of the four rows
 abbrev pub columns_data : Items

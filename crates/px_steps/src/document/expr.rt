@@ -1,85 +1,139 @@
 //! Reading expressions.
-ghost use Rattle.std.specs.Prelude.{◌≡◌, map};
+ghost use Rattle.std.specs.Prelude.{◌≡◌, map, option_and_then, option_map};
+ghost use Rattle.std.specs.List.{list_all};
+ghost use Rattle.serde_json.specs.Find.{as_null, as_str};
 ghost use Rattle.serde_json.specs.View.{view};
-ghost use Rattle.px_plan.specs.View.{tree};
-ghost use Rattle.px_steps.specs.Document.{key_of, agg_of, reduction_of, is_len, is_sum};
-ghost use Rattle.px_steps.specs.Form.{ReadsBy};
 ghost use Rattle.px_column.specs.Option.{each};
+ghost use Rattle.px_plan.specs.Tree.{column, len};
+ghost use Rattle.px_plan.specs.View.{tree};
+ghost use Rattle.px_steps.specs.ExprForm.{alias_parts, expr_form, expr_of, expr_within, is_text, reduction_parts};
+ghost use Rattle.px_steps.specs.Form.{ReadsBy, items, single_member};
+ghost use Rattle.px_steps.specs.Readable.{only_if};
+ghost use Rattle.px_expr.specs.Built.{is_built_tree};
 
 use crate::document::fault::DocumentFault;
-use crate::document::fields::{field, items, read_text};
+use crate::document::fields::{items, only_member, read_text};
+use crate::document::literal::{read_integers, read_literal, read_series};
 use px_plan::{AggExpr, Expr};
 use serde_json::Value;
 use std::alloc::Global;
 
-/// A key: `{"col": text}`.
-pub(crate) fn read_key(alloc: Global, value: &Value) -> Result<Expr, DocumentFault>
-    ensures { ReadsBy tree result (key_of (view value.now)) }
-{
-    let name = field(value, "col").ok_or(DocumentFault::BadDocument)?;
-    Ok(Expr::Column(read_text(alloc, name)?))
-}
+/// At most this many expressions stand inside one another.
+const LEVELS: u32 = 128;
 
-fn is_len(value: &Value) -> bool
-    ensures { result ≡ is_len (view value.now) }
-{
-    match field(value, "len") {
-        Some(inside) => inside.is_null(),
-        None => false,
-    }
-}
-
-fn is_sum(value: &Value) -> bool
-    ensures { result ≡ is_sum (view value.now) }
+fn is_text(name: &str, value: &Value) -> bool
+    ensures { result ≡ is_text name.now (view value.now) }
 {
     match value.as_str() {
-        Some(name) => name == "Sum",
+        Some(text) => text == name,
         None => false,
     }
 }
 
-fn read_reduction(alloc: Global, value: &Value) -> Result<Expr, DocumentFault>
-    ensures { ReadsBy tree result (reduction_of (view value.now)) }
+fn read_name(alloc: Global, value: &Value) -> Result<Expr, DocumentFault>
+    ensures { ReadsBy tree result (option_map column (as_str (view value.now))) }
 {
-    let parts = field(value, "agg").and_then(items);
-    let Some([method, input]) = parts else {
+    Ok(Expr::Column(read_text(alloc, value)?))
+}
+
+fn read_length(value: &Value) -> Result<Expr, DocumentFault>
+    ensures { ReadsBy tree result (option_map (λ _. len) (as_null (view value.now))) }
+{
+    if value.is_null() {
+        Ok(Expr::Len)
+    } else {
+        Err(DocumentFault::BadDocument)
+    }
+}
+
+/// An expression and another name: `[e, text]`.
+#[cycle(expr)]
+fn read_alias(alloc: Global, levels: u32, value: &Value) -> Result<Expr, DocumentFault>
+    ensures { ReadsBy tree result (only_if is_built_tree (option_and_then (alias_parts (expr_within levels)) (items (view value.now)))) }
+{
+    let Some([input, name]) = items(value) else {
         return Err(DocumentFault::BadDocument);
     };
-    if !is_sum(method) {
+    let input = read_within(alloc, levels, input)?;
+    let name = read_text(alloc, name)?;
+    Ok(Expr::Alias(Box::new(alloc, input)?, name))
+}
+
+/// The sum of an expression: `["Sum", e]`.
+#[cycle(expr)]
+fn read_reduction(alloc: Global, levels: u32, value: &Value) -> Result<Expr, DocumentFault>
+    ensures { ReadsBy tree result (only_if is_built_tree (option_and_then (reduction_parts (expr_within levels)) (items (view value.now)))) }
+{
+    let Some([method, input]) = items(value) else {
+        return Err(DocumentFault::BadDocument);
+    };
+    if !is_text("Sum", method) {
         return Err(DocumentFault::BadDocument);
     }
-    let input = read_key(alloc, input)?;
+    let input = read_within(alloc, levels, input)?;
     Ok(Expr::Agg(AggExpr::Sum(Box::new(alloc, input)?)))
 }
 
-/// An aggregation: `{"len": null}` or `{"agg": ["Sum", {"col": text}]}`.
-pub(crate) fn read_aggregation(alloc: Global, value: &Value) -> Result<Expr, DocumentFault>
-    ensures { ReadsBy tree result (agg_of (view value.now)) }
+/// The expression that stands under this key.
+#[cycle(expr)]
+fn read_form(alloc: Global, levels: u32, key: &str, value: &Value) -> Result<Expr, DocumentFault>
+    ensures { ReadsBy tree result (only_if is_built_tree (expr_form (expr_within levels) (single_member key.now (view value.now)))) }
 {
-    if is_len(value) {
-        return Ok(Expr::Len);
+    if key == "col" {
+        read_name(alloc, value)
+    } else if key == "lit" {
+        read_literal(alloc, value)
+    } else if key == "range" {
+        read_integers(alloc, value)
+    } else if key == "series" {
+        read_series(alloc, value)
+    } else if key == "alias" {
+        read_alias(alloc, levels, value)
+    } else if key == "agg" {
+        read_reduction(alloc, levels, value)
+    } else if key == "len" {
+        read_length(value)
+    } else {
+        Err(DocumentFault::BadDocument)
     }
-    read_reduction(alloc, value)
 }
 
-/// Each of these a key.
-pub(crate) fn read_keys(alloc: Global, values: &[Value]) -> Result<Vec<Expr>, DocumentFault>
-    ensures { ReadsBy (λ v. map tree v.items) result (each key_of (map view values.now)) }
+/// An expression, with at most this many inside one another.
+#[cycle(expr)]
+#[tactic(auto, using(crate::proofs::Forms::unkeyed))]
+fn read_within(alloc: Global, levels: u32, value: &Value) -> Result<Expr, DocumentFault>
+    ensures { ReadsBy tree result (only_if is_built_tree (expr_within levels (view value.now))) }
 {
-    let mut keys = Vec::with_capacity(alloc, values.len())?;
-    for value in values {
-        keys.push(read_key(alloc, value)?)?;
+    if levels == 0 {
+        return Err(DocumentFault::BadDocument);
     }
-    Ok(keys)
+    let (key, value) = only_member(value).ok_or(DocumentFault::BadDocument)?;
+    read_form(alloc, levels - 1, key, value)
 }
 
-/// Each of these an aggregation.
-pub(crate) fn read_aggregations(alloc: Global, values: &[Value]) -> Result<Vec<Expr>, DocumentFault>
-    ensures { ReadsBy (λ v. map tree v.items) result (each agg_of (map view values.now)) }
+/// An expression.
+#[tactic(auto, unfolding(crate::specs::ExprForm::expr_of))]
+fn read_expr(alloc: Global, value: &Value) -> Result<Expr, DocumentFault>
+    ensures { ReadsBy tree result (only_if is_built_tree (expr_of (view value.now))) }
 {
-    let mut aggs = Vec::with_capacity(alloc, values.len())?;
+    read_within(alloc, LEVELS, value)
+}
+
+fn read_each(alloc: Global, values: &[Value]) -> Result<Vec<Expr>, DocumentFault>
+    ensures { ReadsBy (λ v. map tree v.items) result (each (λ d. only_if is_built_tree (expr_of d)) (map view values.now)) }
+{
+    let mut exprs = Vec::with_capacity(alloc, values.len())?;
     for value in values {
-        aggs.push(read_aggregation(alloc, value)?)?;
+        exprs.push(read_expr(alloc, value)?)?;
     }
-    Ok(aggs)
+    Ok(exprs)
+}
+
+/// An array of expressions.
+#[tactic(auto, using(crate::proofs::StepForms::exprs_taken))]
+pub(crate) fn read_exprs(alloc: Global, value: &Value) -> Result<Vec<Expr>, DocumentFault>
+    ensures { ReadsBy (λ v. map tree v.items) result (only_if (list_all is_built_tree) (option_and_then (each expr_of) (items (view value.now)))) }
+{
+    let values = items(value).ok_or(DocumentFault::BadDocument)?;
+    read_each(alloc, values)
 }

@@ -2,7 +2,7 @@
 ghost use Rattle.std.specs.Prelude.{◌≡◌, [], ◌∷◌, map, option_map};
 ghost use Rattle.serde_json.specs.Find.{as_str};
 ghost use Rattle.serde_json.specs.View.{view};
-ghost use Rattle.px_steps.specs.Form.{Reads, items, fields, field, has_members};
+ghost use Rattle.px_steps.specs.Form.{Reads, items, fields, has_members, only_member};
 
 use crate::document::fault::DocumentFault;
 use px_column::Name;
@@ -30,15 +30,17 @@ fn has_members(value: &Value, count: usize) -> bool
     }
 }
 
-/// The value of an object whose only key is this one.
-pub(crate) fn field<'v>(value: &'v Value, key: &str) -> Option<&'v Value>
-    ensures { option_map (λ v. view v.now) result ≡ field key.now (view value.now) }
+/// The key and the value of an object of one member.
+#[tactic(auto, using(crate::proofs::Views::only_view, crate::proofs::Views::no_only_view, crate::proofs::Views::no_only_object))]
+pub(crate) fn only_member(value: &Value) -> Option<(&str, &Value)>
+    ensures { option_map (λ p. (p.0.now, view p.1.now)) result ≡ only_member (view value.now) }
 {
-    if has_members(value, 1) {
-        value.get(key)
-    } else {
-        None
+    let members = value.as_object()?;
+    if members.len() != 1 {
+        return None;
     }
+    let (key, inside) = members.first_key_value()?;
+    Some((key.as_str(), inside))
 }
 
 /// The values of an object whose only keys are these two.

@@ -45,7 +45,7 @@ fn list_of(places: Vec<Option<Datum>>) -> Result<Datum, DocumentFault>
 /// not told here.
 #[cycle(place)]
 #[tactic(auto, using(crate::proofs::Readings::place_of_null))]
-fn read_place(
+pub(crate) fn read_place(
     alloc: Global,
     dtype: &DataType,
     value: &Value,

@@ -1,27 +1,87 @@
 //! Reading steps.
-ghost use Rattle.std.specs.Prelude.{map};
+ghost use Rattle.std.specs.Prelude.{◌≡◌, [], ◌∷◌, codes, map, option_and_then, option_map};
+ghost use Rattle.std.specs.List.{list_all};
 ghost use Rattle.serde_json.specs.View.{view};
-ghost use Rattle.px_steps.specs.Document.{step_of, steps_of};
-ghost use Rattle.px_steps.specs.Form.{ReadsBy};
 ghost use Rattle.px_column.specs.Option.{each};
-ghost use Rattle.px_steps.specs.Step.{step_view};
+ghost use Rattle.px_plan.specs.View.{tree};
+ghost use Rattle.px_steps.specs.ExprForm.{expr_of};
+ghost use Rattle.px_steps.specs.Form.{ReadsBy, fields, items};
+ghost use Rattle.px_steps.specs.Readable.{only_if};
+ghost use Rattle.px_steps.specs.Built.{is_built, is_built_agg, is_built_key};
+ghost use Rattle.px_steps.specs.Step.{select, step_view};
+ghost use Rattle.px_steps.specs.StepForm.{any_step_of, any_steps_of, group_parts};
 
-use crate::document::expr::{read_aggregations, read_keys};
+use crate::document::expr::read_exprs;
 use crate::document::fault::DocumentFault;
-use crate::document::fields::{field, items, three_fields};
+use crate::document::fields::{items, only_member, three_fields};
 use crate::step::Step;
+use px_plan::{AggExpr, Expr};
 use serde_json::Value;
 use std::alloc::Global;
 
-/// A step: `{"group": {"keys": [..], "aggs": [..], "chunks": null}}`.
-pub(crate) fn read_step(alloc: Global, value: &Value) -> Result<Step, DocumentFault>
-    ensures { ReadsBy step_view result (step_of (view value.now)) }
+/// A document has at most this many steps.
+const STEP_LIMIT: usize = 64;
+
+/// The expressions of a select step: `[e..]`.
+fn read_select(alloc: Global, value: &Value) -> Result<Step, DocumentFault>
+    ensures { ReadsBy step_view result (only_if is_built (option_map select (option_and_then (each expr_of) (items (view value.now))))) }
 {
-    let group = field(value, "group").ok_or(DocumentFault::BadDocument)?;
-    let fields = three_fields(group, "keys", "aggs", "chunks");
-    let (keys, aggs, chunks) = fields.ok_or(DocumentFault::BadDocument)?;
-    let keys = read_keys(alloc, items(keys).ok_or(DocumentFault::BadDocument)?)?;
-    let aggs = read_aggregations(alloc, items(aggs).ok_or(DocumentFault::BadDocument)?)?;
+    Ok(Step::Select(read_exprs(alloc, value)?))
+}
+
+/// A column, by which groups are formed.
+fn is_group_key(expr: &Expr) -> bool
+    ensures { result ≡ is_built_key (tree expr.now) }
+{
+    matches!(expr, Expr::Column(_))
+}
+
+/// The sum of a column, or the length.
+fn is_group_agg(expr: &Expr) -> bool
+    ensures { result ≡ is_built_agg (tree expr.now) }
+{
+    match expr {
+        Expr::Len => true,
+        Expr::Agg(AggExpr::Sum(input)) => is_group_key(input),
+        _ => false,
+    }
+}
+
+/// The keys of a group step, each of which is a column.
+#[tactic(auto, using(crate::proofs::StepForms::keys_narrowed))]
+fn read_keys(alloc: Global, value: &Value) -> Result<Vec<Expr>, DocumentFault>
+    ensures { ReadsBy (λ v. map tree v.items) result (only_if (list_all is_built_key) (option_and_then (each expr_of) (items (view value.now)))) }
+{
+    let keys = read_exprs(alloc, value)?;
+    if keys.iter().all(is_group_key) {
+        Ok(keys)
+    } else {
+        Err(DocumentFault::BadDocument)
+    }
+}
+
+/// The aggregations of a group step, each of which is the sum of a column or the length.
+#[tactic(auto, using(crate::proofs::StepForms::aggs_narrowed))]
+fn read_aggs(alloc: Global, value: &Value) -> Result<Vec<Expr>, DocumentFault>
+    ensures { ReadsBy (λ v. map tree v.items) result (only_if (list_all is_built_agg) (option_and_then (each expr_of) (items (view value.now)))) }
+{
+    let aggs = read_exprs(alloc, value)?;
+    if aggs.iter().all(is_group_agg) {
+        Ok(aggs)
+    } else {
+        Err(DocumentFault::BadDocument)
+    }
+}
+
+/// The parts of a group step: `{"keys": [e..], "aggs": [e..], "chunks": null}`, of which the keys are
+/// columns, and the aggregations sums of columns and lengths.
+fn read_group(alloc: Global, value: &Value) -> Result<Step, DocumentFault>
+    ensures { ReadsBy step_view result (only_if is_built (option_and_then group_parts (fields (codes "keys" ∷ codes "aggs" ∷ codes "chunks" ∷ []) (view value.now)))) }
+{
+    let parts = three_fields(value, "keys", "aggs", "chunks");
+    let (keys, aggs, chunks) = parts.ok_or(DocumentFault::BadDocument)?;
+    let keys = read_keys(alloc, keys)?;
+    let aggs = read_aggs(alloc, aggs)?;
     if !chunks.is_null() {
         return Err(DocumentFault::BadDocument);
     }
@@ -29,8 +89,23 @@ pub(crate) fn read_step(alloc: Global, value: &Value) -> Result<Step, DocumentFa
     Ok(Step::GroupAgg { keys, aggs, chunks })
 }
 
+/// A step: `{"select": [..]}` or `{"group": {..}}`.
+#[tactic(auto, using(crate::proofs::StepForms::no_step))]
+fn read_step(alloc: Global, value: &Value) -> Result<Step, DocumentFault>
+    ensures { ReadsBy step_view result (only_if is_built (any_step_of (view value.now))) }
+{
+    let (key, value) = only_member(value).ok_or(DocumentFault::BadDocument)?;
+    if key == "select" {
+        read_select(alloc, value)
+    } else if key == "group" {
+        read_group(alloc, value)
+    } else {
+        Err(DocumentFault::BadDocument)
+    }
+}
+
 fn read_each(alloc: Global, values: &[Value]) -> Result<Vec<Step>, DocumentFault>
-    ensures { ReadsBy (λ v. map step_view v.items) result (each step_of (map view values.now)) }
+    ensures { ReadsBy (λ v. map step_view v.items) result (each (λ d. only_if is_built (any_step_of d)) (map view values.now)) }
 {
     let mut steps = Vec::with_capacity(alloc, values.len())?;
     for value in values {
@@ -39,11 +114,12 @@ fn read_each(alloc: Global, values: &[Value]) -> Result<Vec<Step>, DocumentFault
     Ok(steps)
 }
 
-/// Each of these a step, of which there is exactly one.
+/// Each of these a step, of which there are at most 64.
+#[tactic(auto, using(crate::proofs::StepForms::many_taken))]
 pub(crate) fn read_steps(alloc: Global, values: &[Value]) -> Result<Vec<Step>, DocumentFault>
-    ensures { ReadsBy (λ v. map step_view v.items) result (steps_of (map view values.now)) }
+    ensures { ReadsBy (λ v. map step_view v.items) result (only_if (list_all is_built) (any_steps_of (map view values.now))) }
 {
-    if values.len() != 1 {
+    if values.len() > STEP_LIMIT {
         return Err(DocumentFault::BadDocument);
     }
     read_each(alloc, values)

@@ -139,10 +139,10 @@ fn other_inputs_are_no_documents(rt: HostRuntime) -> Result<(), Fail> {
     let alloc = rt.alloc();
     let whole = four_rows(alloc, STEP)?;
     let front = whole.as_str().get(..100).ok_or("the document is longer")?;
-    let select = four_rows(alloc, "{\"select\":[{\"col\":\"x\"}]}")?;
+    let filter = four_rows(alloc, "{\"filter\":{\"col\":\"x\"}}")?;
     let half = document(alloc, "[7]", "[1.5]", STEP)?;
     let longer = document(alloc, "[7,8]", "[1]", STEP)?;
-    for input in [front, "", &select, &half, &longer] {
+    for input in [front, "", &filter, &half, &longer] {
         check(alloc, input, Status::BadDocument, "error: BadDocument\n")?;
     }
     Ok(())

@@ -1,11 +1,13 @@
 use Rattle.std.proofs.Common.{◌≡◌, map, drop}
 use Rattle.serde_json.specs.View.{view}
-use Rattle.px_steps.specs.Document.{step_of}
 use Rattle.px_column.specs.Option.{each}
-use Rattle.px_steps.specs.Step.{step_view}
 use Rattle.px_steps.specs.Form.{with_front}
+use Rattle.px_steps.specs.Readable.{only_if}
+use Rattle.px_steps.specs.Built.{is_built}
+use Rattle.px_steps.specs.Step.{step_view}
+use Rattle.px_steps.specs.StepForm.{any_step_of}
 use Rattle.px_steps.proofs.document.step.read_each.Given as goal
 
 -- what was read and what is left are all
 abbrev pub invariant-loop-value : goal.invariant-loop-value
-invariant-loop-value l = with_front (map step_view l.steps.items) (each step_of (map view (drop l.value-index l.values))) ≡ each step_of (map view l.values)
+invariant-loop-value l = with_front (map step_view l.steps.items) (each (λ d. only_if is_built (any_step_of d)) (map view (drop l.value-index l.values))) ≡ each (λ d. only_if is_built (any_step_of d)) (map view l.values)
