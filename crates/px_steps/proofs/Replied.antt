@@ -7,29 +7,17 @@ use Rattle.px_column.specs.declared.error.PxError.{PxError}
 use Rattle.px_column.specs.declared.error.PxError.TheVariants.{OutOfMemory}
 use Rattle.px_frame.specs.External.{alone}
 use Rattle.px_frame.specs.Frame.{height_of}
-use Rattle.px_steps.specs.Built.{is_built, is_built_group}
+use Rattle.px_steps.specs.Built.{is_built}
 use Rattle.px_steps.specs.Causes.{AreSound, IsCauseIn}
 use Rattle.px_steps.specs.Document.{Doc}
 use Rattle.px_steps.specs.Label.{line_of}
 use Rattle.px_steps.specs.Plain.{groupings_of, plain_on}
 use Rattle.px_steps.specs.Reply.{IsDocument, IsResult, IsRefusal}
-use Rattle.px_steps.specs.Step.{PlainStep, group}
 use Rattle.px_steps.specs.Text.{text_of}
-use Rattle.px_steps.proofs.Columns.{both}
-use Rattle.px_steps.proofs.DocumentSteps.{text_built}
-
--- a group step that is read is run
-group_built : (s : PlainStep) → is_built_group s ≡ true → is_built s ≡ true
-group_built (group keys aggs chunks) h = h
-group_built _ h = cc
-
-groups_built : (steps : List PlainStep) → list_all is_built_group steps ≡ true → list_all is_built steps ≡ true
-groups_built [] h = refl
-groups_built (s ∷ steps) h = let b = both (is_built_group s) (list_all is_built_group steps) h in λ i. group_built s b.0 i && groups_built steps b.1 i
 
 -- the steps of a document can be run
 pub document_built : (bytes : List ℕ) (doc : Doc) → IsDocument bytes doc → list_all is_built doc.steps ≡ true
-document_built bytes doc is = groups_built doc.steps (text_built bytes doc is.says).0
+document_built bytes doc is = is.says.readable
 
 -- bytes say at most one document
 pub one_document : (bytes : List ℕ) (doc other : Doc) → IsDocument bytes doc → IsDocument bytes other → doc ≡ other
