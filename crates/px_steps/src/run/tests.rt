@@ -9,6 +9,7 @@ use std::test::Fail;
 
 mod faults;
 mod rows;
+mod selects;
 
 const VALID: &str =
     r#"{"columns":[{"name":"k","type":"Int64","values":[7,9,7]}],"steps":[{"group":{"keys":[{"col":"k"}],"aggs":[{"len":null}],"chunks":null}}]}"#;

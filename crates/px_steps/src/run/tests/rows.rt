@@ -14,7 +14,7 @@ fn document(alloc: Global, k: &str, x: &str, step: &str) -> Result<String, Fail>
     )?)
 }
 
-fn four_rows(alloc: Global, step: &str) -> Result<String, Fail> {
+pub(super) fn four_rows(alloc: Global, step: &str) -> Result<String, Fail> {
     document(alloc, FOUR_ROWS, "[0,1,2,3]", step)
 }
 
@@ -23,7 +23,7 @@ fn group(alloc: Global, keys: &str, aggs: &str) -> Result<String, Fail> {
     Ok(format!(in alloc; "{{\"group\":{{\"keys\":{keys},\"aggs\":{aggs},\"chunks\":null}}}}")?)
 }
 
-fn check(alloc: Global, document: &str, status: Status, text: &str) -> Result<(), Fail> {
+pub(super) fn check(alloc: Global, document: &str, status: Status, text: &str) -> Result<(), Fail> {
     let mut source = source_of(alloc, document)?;
     let mut sink = MemorySink::new(alloc, 1000, 10, Vec::new(alloc))?;
     let told = ran(alloc, "run", &mut source, &mut sink)?;
