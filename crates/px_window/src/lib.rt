@@ -3,6 +3,8 @@
 
 mod flags;
 mod state;
+#[cfg(test)]
+mod tests;
 
 pub use flags::StateFlags;
 pub use state::ExecutionState;

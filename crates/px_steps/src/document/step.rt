@@ -3,7 +3,7 @@ ghost use Rattle.std.specs.Prelude.{◌≡◌, [], ◌∷◌, codes, map, option
 ghost use Rattle.std.specs.List.{list_all};
 ghost use Rattle.serde_json.specs.View.{view};
 ghost use Rattle.px_column.specs.Option.{each};
-ghost use Rattle.px_plan.specs.View.{tree};
+ghost use Rattle.px_plan.specs.View.{agg_tree, tree};
 ghost use Rattle.px_steps.specs.ExprForm.{expr_of};
 ghost use Rattle.px_steps.specs.Form.{ReadsBy, fields, items};
 ghost use Rattle.px_steps.specs.Readable.{only_if};
@@ -36,13 +36,23 @@ fn is_group_key(expr: &Expr) -> bool
     matches!(expr, Expr::Column(_))
 }
 
+/// The sum of a column.
+fn is_column_sum(reduction: &AggExpr) -> bool
+    ensures { result ≡ is_built_agg (agg_tree reduction.now) }
+{
+    match reduction {
+        AggExpr::Sum(input) => is_group_key(input),
+        _ => false,
+    }
+}
+
 /// The sum of a column, or the length.
 fn is_group_agg(expr: &Expr) -> bool
     ensures { result ≡ is_built_agg (tree expr.now) }
 {
     match expr {
         Expr::Len => true,
-        Expr::Agg(AggExpr::Sum(input)) => is_group_key(input),
+        Expr::Agg(reduction) => is_column_sum(reduction),
         _ => false,
     }
 }
