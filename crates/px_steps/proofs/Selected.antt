@@ -98,14 +98,6 @@ planned_meets {X} view t scope r b a = by (refusals_of t scope Default) (kind_in
     by (e ∷ es) K there (Ok x) a = cc
     by (e ∷ es) K there (Err f) a = refuses_first _ f e es a
 
-field_there : (n : List ℕ) (fields : List FieldKind) (g : FieldKind) → find (has_field_name n) fields ≡ Some g → is_field_name n fields ≡ true
-field_there n [] g h = cc
-field_there n (f ∷ fields) g h = by (name_eq n f.name) h (field_there n fields g)
-  where
-    by : (b : Bool) → cond b (Some f) (find (has_field_name n) fields) ≡ Some g → (find (has_field_name n) fields ≡ Some g → is_field_name n fields ≡ true) → (b || is_field_name n fields) ≡ true
-    by true h rest = refl
-    by false h rest = rest h
-
 found_there : (n : List ℕ) (cs : List Series) → There (kind_of_name n (map column_field cs)) → There (find (has_field_name n) (map column_field cs)) × There (look n cs)
 found_there n cs t = by (look n cs) (find (has_field_name n) (map column_field cs)) (field-look n cs) t
   where
@@ -115,19 +107,17 @@ found_there n cs t = by (look n cs) (find (has_field_name n) (map column_field c
     by (Some s) None e t = cc
     by (Some s) (Some f) e t = ((f, refl), (s, refl))
 
-not_both : (r b : Bool) → b ≡ true → (r && not b) ≡ false
-not_both r true h = by r
-  where
-    by : (r : Bool) → (r && false) ≡ false
-    by true = refl
-    by false = refl
-not_both r false h = cc
+-- what is there is not missing
+not_missing : {A : Type 0} (r : Bool) (o : Option A) (a : A) → o ≡ Some a → (r && is_none o) ≡ false
+not_missing true None a h = cc
+not_missing true (Some b) a h = refl
+not_missing false o a h = refl
 
 -- the node of a name that has a type finds its column
 name_found : (n : List ℕ) (cs : List Series) (e : PxError) → refused_where (is_none (kind_of_name n (map column_field cs))) e ≡ [] → unfound_refusal (alone cs) (record { name = n; schema = map column_field cs }) ≡ []
 name_found n cs e h =
     let t = found_there n cs (name_there (kind_of_name n (map column_field cs)) e h) in
-    let plain : (is_reserved n && not (is_field_name n (map column_field cs))) ≡ false = not_both (is_reserved n) (is_field_name n (map column_field cs)) (field_there n (map column_field cs) t.0.0 t.0.1) in
+    let plain : (is_reserved n && is_none (find (has_field_name n) (map column_field cs))) ≡ false = not_missing (is_reserved n) (find (has_field_name n) (map column_field cs)) t.0.0 t.0.1 in
     let there : look n cs ≡ Some t.1.0 = t.1.1 in
     rw (plain, there) refl
 

@@ -42,7 +42,13 @@ fn is_column_sum(reduction: &AggExpr) -> bool
 {
     match reduction {
         AggExpr::Sum(input) => is_group_key(input),
-        _ => false,
+        AggExpr::Min(_)
+        | AggExpr::Max(_)
+        | AggExpr::First(_)
+        | AggExpr::Last(_)
+        | AggExpr::NUnique(_)
+        | AggExpr::Implode(_)
+        | AggExpr::Count(..) => false,
     }
 }
 
@@ -57,13 +63,35 @@ fn is_group_agg(expr: &Expr) -> bool
     }
 }
 
+fn are_group_keys(exprs: &[Expr]) -> bool
+    ensures { result ≡ list_all is_built_key (map tree exprs.now) }
+{
+    for expr in exprs {
+        if !is_group_key(expr) {
+            return false;
+        }
+    }
+    true
+}
+
+fn are_group_aggs(exprs: &[Expr]) -> bool
+    ensures { result ≡ list_all is_built_agg (map tree exprs.now) }
+{
+    for expr in exprs {
+        if !is_group_agg(expr) {
+            return false;
+        }
+    }
+    true
+}
+
 /// The keys of a group step, each of which is a column.
 #[tactic(auto, using(crate::proofs::StepForms::keys_narrowed))]
 fn read_keys(alloc: Global, value: &Value) -> Result<Vec<Expr>, DocumentFault>
     ensures { ReadsBy (λ v. map tree v.items) result (only_if (list_all is_built_key) (option_and_then (each expr_of) (items (view value.now)))) }
 {
     let keys = read_exprs(alloc, value)?;
-    if keys.iter().all(is_group_key) {
+    if are_group_keys(&keys) {
         Ok(keys)
     } else {
         Err(DocumentFault::BadDocument)
@@ -76,7 +104,7 @@ fn read_aggs(alloc: Global, value: &Value) -> Result<Vec<Expr>, DocumentFault>
     ensures { ReadsBy (λ v. map tree v.items) result (only_if (list_all is_built_agg) (option_and_then (each expr_of) (items (view value.now)))) }
 {
     let aggs = read_exprs(alloc, value)?;
-    if aggs.iter().all(is_group_agg) {
+    if are_group_aggs(&aggs) {
         Ok(aggs)
     } else {
         Err(DocumentFault::BadDocument)
