@@ -147,7 +147,7 @@ fn run_document<L: Ledger, M: Ledger>(
 }
 
 /// What a run writes.
-fn written(alloc: Global, text: &str) -> Px<MemorySink> {
+pub(super) fn written(alloc: Global, text: &str) -> Px<MemorySink> {
     let bytes = Vec::from_slice(alloc, text.as_bytes())?;
     let mut source = MemorySource::new(bytes, 1000, Vec::new(alloc));
     let mut sink = MemorySink::new(alloc, 10000, 1000, Vec::new(alloc))?;
