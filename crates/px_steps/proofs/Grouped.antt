@@ -1,69 +1,39 @@
--- A group step by columns has no faults, and answers what it means among all steps.
-use Rattle.std.proofs.Common.{◌≡◌, ◌⊎◌, inl, inr, ℕ, ◌==◌, Bool, true, false, List, [], ◌∷◌, ◌++◌, Option, Some, None, Result, Ok, Err, length, option_map, refl, sym, ◌∙◌, ap, subst}
-use Rattle.std.specs.List.{flat_map, list_all}
+-- A group step by columns, with sums of columns and lengths, is a group step of expressions that have nodes.
+use Rattle.std.proofs.Common.{◌≡◌, ℕ, Bool, true, false, ◌&&◌, List, [], ◌∷◌, Option, Some, None, Result, refl, sym, ◌∙◌, ap, subst}
+use Rattle.std.specs.List.{list_all}
 use Rattle.px_column.specs.Series.{Series}
 use Rattle.px_column.specs.declared.error.PxError.{PxError}
-use Rattle.px_column.specs.declared.error.PxError.TheVariants.{OutOfMemory}
-use Rattle.px_frame.specs.External.{Frame, alone}
-use Rattle.px_frame.specs.Frame.{IsFrame, has_height, has_name, height_of, look}
-use Rattle.px_plan.specs.Tree.{Tree, column}
-use Rattle.px_plan.specs.Value.{faults_on, value_on}
-use Rattle.px_steps.specs.Built.{is_built, is_built_group, is_built_key, is_built_agg}
-use Rattle.px_steps.specs.Causes.{IsSound, IsStepCause, StepAnswers}
-use Rattle.px_steps.specs.Direct as direct
-use Rattle.px_steps.specs.DirectLaws.{refusal_same, columns_same, found_high, key_is, agg_is, all_and}
-use Rattle.px_steps.specs.Meets.{IsFirst, Meets}
-use Rattle.px_steps.specs.Plain.{first_of, frames_by, height_fault, step_faults, step_on}
+use Rattle.px_expr.specs.Built.{is_built_tree, is_sum}
+use Rattle.px_plan.specs.Tree.{Tree, column, agg, len}
+use Rattle.px_steps.specs.Built.{is_built, is_built_key, is_built_agg}
+use Rattle.px_steps.specs.Causes.{StepAnswers}
 use Rattle.px_steps.specs.Step.{PlainStep, group}
-use Rattle.px_steps.proofs.Selected.{first_cause, no_misfits}
+use Rattle.px_steps.proofs.Columns.{both}
 
-flat_none : {A B : Type 0} (f : A → List B) (xs : List A) → ((x : A) → f x ≡ []) → flat_map f xs ≡ []
-flat_none f [] h = refl
-flat_none f (x ∷ xs) h = λ i. h x i ++ flat_none f xs h i
+key_built : (t : Tree) → is_built_key t ≡ true → is_built_tree t ≡ true
+key_built (column n) h = refl
+key_built _ h = cc
 
-flat_built : (built : Tree → Bool) (f : Tree → List PxError) (ts : List Tree) → ((t : Tree) → built t ≡ true → f t ≡ []) → list_all built ts ≡ true → flat_map f ts ≡ []
-flat_built built f [] h b = refl
-flat_built built f (t ∷ ts) h b = let a = all_and (built t) (list_all built ts) b in λ i. h t a.0 i ++ flat_built built f ts h a.1 i
+agg_built : (t : Tree) → is_built_agg t ≡ true → is_built_tree t ≡ true
+agg_built (agg m e) h = let p = both (is_sum m) (is_built_key e) h in λ i. p.0 i && key_built e p.1 i
+agg_built len h = refl
+agg_built _ h = cc
 
--- a column of a frame has the frame's height
-key_high : (n : List ℕ) (cs : List Series) → IsFrame cs → height_fault (alone cs) (value_on (column n) (alone cs)) ≡ []
-key_high n cs is = by (look n cs) refl
-  where
-    by : (o : Option Series) → look n cs ≡ o → height_fault (alone cs) (value_on (column n) (alone cs)) ≡ []
-    by None e = rw e refl
-    by (Some s) e =
-        let high : (length s.slots == height_of cs) ≡ true = found_high (has_height (height_of cs)) (has_name n) cs s is.even e in
-        rw (e, high) refl
+all_built : (built : Tree → Bool) (ts : List Tree) → ((t : Tree) → built t ≡ true → is_built_tree t ≡ true) → list_all built ts ≡ true → list_all is_built_tree ts ≡ true
+all_built built [] f h = refl
+all_built built (t ∷ ts) f h = let p = both (built t) (list_all built ts) h in λ i. f t p.0 i && all_built built ts f p.1 i
 
-pub group_sound : (s : PlainStep) (cs : List Series) → is_built_group s ≡ true → IsFrame cs → step_faults s (alone cs) ≡ []
-group_sound (group keys aggs None) cs b is =
-    let built = all_and (list_all is_built_key keys) (list_all is_built_agg aggs) b in
-    let F = alone cs in
-    let k : flat_map (λ e. faults_on e (alone cs)) keys ≡ []
-    = flat_built is_built_key _ keys (key_is (λ e. faults_on e (alone cs)) (λ e. []) (λ n. refl)) built.0 in
-    let h : flat_map (λ e. height_fault (alone cs) (value_on e (alone cs))) keys ≡ []
-    = flat_built is_built_key _ keys (key_is (λ e. height_fault (alone cs) (value_on e (alone cs))) (λ e. []) (λ n. key_high n cs is)) built.0 in
-    let a : flat_map (λ e. flat_map (faults_on e) (frames_by (alone cs) keys)) aggs ≡ []
-    = flat_built is_built_agg _ aggs
-    (agg_is (λ e. flat_map (faults_on e) (frames_by (alone cs) keys)) (λ e. []) (λ n. flat_none _ (frames_by (alone cs) keys) (λ f. refl)) (flat_none _ (frames_by (alone cs) keys) (λ f. refl)))
-    built.1 in
-    λ i. ((k i ++ h i) ++ a i) ++ no_misfits cs (keys ++ aggs) i
-group_sound _ cs b is = cc
+-- the keys and aggregations of a group step that is run have nodes, and it has no chunks
+pub group_built : (step : PlainStep) (keys aggs : List Tree) (chunks : Option (List ℕ)) → step ≡ group keys aggs chunks → is_built step ≡ true
+    → (list_all is_built_tree keys ≡ true) × (list_all is_built_tree aggs ≡ true) × (chunks ≡ None)
+group_built step keys aggs None e b =
+    let p = both (list_all is_built_key keys) (list_all is_built_agg aggs) (sym (ap is_built e) ∙ b) in
+    (all_built is_built_key keys key_built p.0, all_built is_built_agg aggs agg_built p.1, refl)
+group_built step keys aggs (Some ns) e b = let no : false ≡ true = sym (ap is_built e) ∙ b in cc
 
--- what the group step's own meaning tells is what the step answers
-pub group_answers : (s : PlainStep) (cs : List Series) (r : Result (List Series) PxError) → is_built_group s ≡ true → IsFrame cs → Meets r (direct.step_refusals s cs) (direct.step_on s cs) → StepAnswers r s cs
-group_answers s cs (Ok f) b is h = (
-  record { accepted = refusal_same s cs b ∙ ap first_of h.0; sound = group_sound s cs b is },
-  ap (λ o. option_map (λ columns. record (alone cs) { columns = columns }) o) (columns_same s cs b is ∙ h.1),
-)
-group_answers s cs (Err e) b is h = by (first_cause e (direct.step_refusals s cs) h)
-  where
-    by : (e ≡ OutOfMemory) ⊎ (first_of (direct.step_refusals s cs) ≡ Some e) → (e ≡ OutOfMemory) ⊎ IsStepCause e s (alone cs)
-    by (inl m) = inl m
-    by (inr f) = inr (inl (refusal_same s cs b ∙ f))
-
--- the same for a step that is such a group step
-pub group_run : (step : PlainStep) (keys aggs : List Tree) (chunks : Option (List ℕ)) (cs : List Series) (r : Result (List Series) PxError) → step ≡ group keys aggs chunks → is_built step ≡ true → IsFrame cs
-    → Meets r (direct.step_refusals (group keys aggs None) cs) (direct.step_on (group keys aggs None) cs) → StepAnswers r step cs
-group_run step keys aggs None cs r e b is h = subst (λ (s : PlainStep). StepAnswers r s cs) (sym e) (group_answers (group keys aggs None) cs r (sym (ap is_built e) ∙ b) is h)
-group_run step keys aggs (Some ns) cs r e b is h = let no : false ≡ true = sym (ap is_built e) ∙ b in cc
+-- what such a step answers
+pub group_run : (step : PlainStep) (keys aggs : List Tree) (chunks : Option (List ℕ)) (cs : List Series) (r : Result (List Series) PxError) → step ≡ group keys aggs chunks → is_built step ≡ true
+    → StepAnswers r (group keys aggs None) cs → StepAnswers r step cs
+group_run step keys aggs chunks cs r e b h =
+    let none = (group_built step keys aggs chunks e b).2 in
+    subst (λ (s : PlainStep). StepAnswers r s cs) (ap (group keys aggs) (sym none) ∙ sym e) h
