@@ -1,5 +1,10 @@
--- How deep an expression is, and whether a window stands in it.
-use Rattle.std.specs.Prelude.{ℕ, zero, suc, ◌+◌, Bool, true, false, ◌||◌, max, nat_le}
+-- How deep an expression is, whether a window stands in it, and the limit that a text sets.
+use Rattle.std.specs.Prelude.{ℕ, zero, suc, ◌+◌, ◌^◌, Bool, true, false, ◌||◌, max, nat_le, nat_lt, List, Option, Some, None, Result, Ok, Err, if◌then◌else◌}
+use Rattle.std.specs.Str.Parse.{without_leading_plus}
+use Rattle.px_column.specs.Cast.{natural_of}
+use Rattle.px_column.specs.declared.error.PxError.{PxError}
+use Rattle.px_column.specs.declared.error.PxError.TheVariants.{ComputeError}
+use Rattle.px_column.specs.declared.error.ComputeWhy.TheVariants.{DepthText}
 use Rattle.px_plan.specs.Tree.{Tree, Trees, Order, no_trees, one_tree, no_order, ordered, column, literal, alias, binary, ternary, cast, function, filter, slice, gather, sort, sort_by, agg, len, window}
 
 -- the greatest number of nodes on a path from an expression to one of its leaves
@@ -59,3 +64,17 @@ abbrev mutual
 abbrev pub is_too_deep : ℕ → Tree → Bool
 is_too_deep zero e = false
 is_too_deep (suc limit) e = nat_le (suc limit) (depth_of e)
+
+-- the limit that a number sets, if there is one: none, which is 0, above 65535; a number of 2^64 or more is refused
+abbrev pub numbered_depth_limit : Option ℕ → Result ℕ PxError
+numbered_depth_limit None = Err (ComputeError DepthText)
+numbered_depth_limit (Some n) = if nat_lt n (2 ^ 64) then Ok (if nat_lt n (2 ^ 16) then n else 0) else Err (ComputeError DepthText)
+
+-- the limit that a text sets by a number in decimal digits, where a plus may stand first
+abbrev pub written_depth_limit : List ℕ → Result ℕ PxError
+written_depth_limit text = numbered_depth_limit (natural_of (without_leading_plus text))
+
+-- the limit that a text sets, and 512 without a text
+abbrev pub depth_limit_of : Option (List ℕ) → Result ℕ PxError
+depth_limit_of None = Ok 512
+depth_limit_of (Some text) = written_depth_limit text

@@ -2,6 +2,7 @@ pub mod Built
 pub mod Deep
 pub mod Depth
 pub mod Inline
+pub mod Literal
 pub mod Live
 pub mod NodeView
 pub mod Plan

@@ -18,9 +18,13 @@ expression_of (agg m e) = None
 expression_of (alias e n) = Some e
 expression_of e = Some e
 
+-- a name with a type
+abbrev pub field_of : List ℕ → Kind → Result FieldKind PxError
+field_of n k = Ok (record { name = n; kind = k })
+
 -- the name and type of an expression over a schema, or its first refusal
 abbrev pub field_on : Tree → Scope → Result FieldKind PxError
-field_on e scope = type_of e scope Default >>= λ k. Ok (record { name = name_of e; kind = k })
+field_on e scope = type_of e scope Default >>= field_of (name_of e)
 
 -- a literal, also under aliases
 abbrev pub is_literal_node : Tree → Bool

@@ -1,14 +1,16 @@
 -- What the planner makes of an expression.
-use Rattle.std.specs.Prelude.{ℕ, Bool, ◌||◌, List, Option, Some, None, Result, Ok, map}
+use Rattle.std.specs.Prelude.{◌≡◌, ℕ, ◌<◌, true, ◌||◌, List, [], ◌∷◌, Option, Some, None, Result, Ok, length, map, fold, take}
 use Rattle.px_column.specs.Result.{◌>>=◌}
 use Rattle.px_column.specs.declared.error.PxError.{PxError}
-use Rattle.px_frame.specs.Schema.{FieldKind}
+use Rattle.px_plan.specs.Arena.{tree_at}
+use Rattle.px_plan.specs.Named.{NamedNode}
 use Rattle.px_plan.specs.Nodes.{leaf_names}
 use Rattle.px_plan.specs.Tree.{Tree, alias}
 use Rattle.px_plan.specs.Typing.{Scope, type_of}
 use Rattle.px_plan.specs.declared.context.Context.{Context}
+use Rattle.px_expr.specs.Built.{is_built_tree}
 use Rattle.px_expr.specs.Depth.{has_window, is_too_deep}
-use Rattle.px_expr.specs.Planned.{Planned, PlannedColumn}
+use Rattle.px_expr.specs.Planned.{Planned}
 use Rattle.px_expr.specs.declared.conversion.ExpressionConversionState.{ExpressionConversionState}
 
 -- an expression under the name that it is given, if any
@@ -27,3 +29,28 @@ plan_in name e scope place = type_of e scope place >>= λ k. Ok (planned_over sc
 -- what is noted of an expression that was planned: a window in it, and too great a depth
 abbrev pub noted : Tree → ExpressionConversionState → ExpressionConversionState
 noted e s = record s { has_windows = s.has_windows || has_window e; too_deep = s.too_deep || is_too_deep s.depth_limit e }
+
+-- a node that an arena has, of an expression that has nodes
+abbrev pub IsPlannable : List Tree → NamedNode → Type 0
+IsPlannable ts e = (e.node.0 < length ts) × (is_built_tree (tree_at ts e.node) ≡ true)
+
+-- the node of an expression in an arena
+abbrev pub plan_at : List Tree → Scope → Context → NamedNode → Result Planned PxError
+plan_at ts scope place e = plan_in e.alias (tree_at ts e.node) scope place
+
+-- the nodes of some expressions in order, or the first refusal
+abbrev pub plans_in : List NamedNode → List Tree → Scope → Context → Result (List Planned) PxError
+plans_in [] ts scope place = Ok []
+plans_in (e ∷ es) ts scope place = plan_at ts scope place e >>= λ p. plans_in es ts scope place >>= λ ps. Ok (p ∷ ps)
+
+-- what is noted of an expression in an arena
+abbrev pub noted_at : List Tree → ExpressionConversionState → NamedNode → ExpressionConversionState
+noted_at ts s e = noted (tree_at ts e.node) s
+
+-- what is noted of some expressions that were planned
+abbrev pub all_noted : List Tree → ExpressionConversionState → List NamedNode → ExpressionConversionState
+all_noted ts s es = fold (noted_at ts) s es
+
+-- what is noted of some expressions is what is noted of a front of them
+abbrev pub NotesFront : List Tree → ExpressionConversionState → List NamedNode → ExpressionConversionState → Type 0
+NotesFront ts s es new = (n : ℕ) × (new ≡ all_noted ts s (take n es))

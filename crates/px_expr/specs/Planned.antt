@@ -1,12 +1,13 @@
 -- What contracts see of a node: the tree of its expression, and the columns that it names with the schemas they were planned over.
-use Rattle.std.specs.Prelude.{ℕ, Bool, not, ◌&&◌, List, Option, length, take, drop, codes, map, if◌then◌else◌, refl}
+use Rattle.std.specs.Prelude.{ℕ, Bool, ◌&&◌, List, Option, length, take, drop, codes, find, is_none, if◌then◌else◌, refl}
+use Rattle.std.specs.Str.{bytes_eq}
 use Rattle.std.specs.Coded.{Coded, code_by, coded×, coded_list, coded_ℕ, coded_option}
 use Rattle.px_column.specs.Series.{Series}
 use Rattle.px_column.specs.declared.method.GroupByMethod.{GroupByMethod}
 use Rattle.px_column.specs.contracts.method.GroupByMethod as method
 use Rattle.px_frame.specs.External.{Frame, look_in}
-use Rattle.px_frame.specs.Frame.{look, name_eq}
-use Rattle.px_frame.specs.Schema.{FieldKind, coded_field, is_field_name}
+use Rattle.px_frame.specs.Frame.{look}
+use Rattle.px_frame.specs.Schema.{FieldKind, coded_field, has_field_name}
 use Rattle.px_plan.specs.Tree.{Tree}
 use Rattle.px_plan.specs.TreeCode.{coded_tree}
 
@@ -44,11 +45,11 @@ reserved_prefix = codes "__POLARS_CSER_"
 
 -- whether a name begins with the reserved prefix
 abbrev pub is_reserved : List ℕ → Bool
-is_reserved n = name_eq (take (length reserved_prefix) n) reserved_prefix
+is_reserved n = bytes_eq (take (length reserved_prefix) n) reserved_prefix
 
 -- a reserved name that the schema lacks
 abbrev pub is_added : PlannedColumn → Bool
-is_added c = is_reserved c.name && not (is_field_name c.name c.schema)
+is_added c = is_reserved c.name && is_none (find (has_field_name c.name) c.schema)
 
 -- the column that a column node finds: a reserved name that its schema lacks only behind as many columns as the schema has
 abbrev pub found_by : PlannedColumn → Frame → Option Series

@@ -1,10 +1,8 @@
 //! Reductions.
-ghost use Rattle.px_expr.specs.Planned.{Planned};
-
 use crate::node::AggregationExpr;
 use crate::physical::PhysicalExpr;
 use indexmap::IndexSet;
-use px_column::{Column, GroupByMethod, Name, Px, PxError, Steps};
+use px_column::{Column, GroupByMethod, Name, Px, Steps};
 use px_frame::{DataFrame, Field, Schema};
 use px_plan::Expr;
 use px_window::ExecutionState;
@@ -20,6 +18,7 @@ impl PhysicalExpr for AggregationExpr {
         None
     }
 
+    #[cycle(evaluate)]
     fn evaluate<L: Ledger, M: Ledger>(
         &self,
         alloc: Global,
@@ -28,7 +27,8 @@ impl PhysicalExpr for AggregationExpr {
         kernels: &mut Steps<L>,
         groupings: &mut Steps<M>,
     ) -> Px<Column> {
-        Err(PxError::OutOfMemory)
+        let input = self.expr.evaluate(alloc, df, state, kernels, groupings)?;
+        input.reduce(alloc, self.agg_type.groupby, kernels)
     }
 
     fn evaluate_inline(&self, alloc: Global) -> Px<Option<Column>> {
@@ -36,15 +36,21 @@ impl PhysicalExpr for AggregationExpr {
     }
 
     fn evaluate_inline_impl(&self, alloc: Global, depth_limit: u8) -> Px<Option<Column>> {
-        Err(PxError::OutOfMemory)
+        let _ = &self.field;
+        Ok(None)
     }
 
+    #[cycle(field)]
     fn to_field(&self, alloc: Global, input_schema: &Schema) -> Px<Field> {
-        Err(PxError::OutOfMemory)
+        let field = self.expr.to_field(alloc, input_schema)?;
+        let dtype = field.dtype.reduced_type(alloc, self.agg_type.groupby)?;
+        let name = field.name;
+        Ok(Field { name, dtype })
     }
 
+    #[cycle(live)]
     fn collect_live_columns(&self, alloc: Global, lv: &mut IndexSet<Name>) -> Px<()> {
-        Err(PxError::OutOfMemory)
+        self.expr.collect_live_columns(alloc, lv)
     }
 
     fn is_literal(&self) -> bool {

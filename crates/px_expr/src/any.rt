@@ -1,6 +1,4 @@
 //! Nodes of any kind.
-ghost use Rattle.px_expr.specs.Planned.{Planned};
-
 use crate::node::PhysExpr;
 use crate::physical::PhysicalExpr;
 use indexmap::IndexSet;
@@ -26,6 +24,7 @@ impl PhysicalExpr for PhysExpr {
         }
     }
 
+    #[cycle(evaluate)]
     fn evaluate<L: Ledger, M: Ledger>(
         &self,
         alloc: Global,
@@ -47,6 +46,7 @@ impl PhysicalExpr for PhysExpr {
         self.evaluate_inline_impl(alloc, 4)
     }
 
+    #[cycle(inline)]
     fn evaluate_inline_impl(&self, alloc: Global, depth_limit: u8) -> Px<Option<Column>> {
         match self {
             PhysExpr::Column(node) => node.evaluate_inline_impl(alloc, depth_limit),
@@ -57,6 +57,7 @@ impl PhysicalExpr for PhysExpr {
         }
     }
 
+    #[cycle(field)]
     fn to_field(&self, alloc: Global, input_schema: &Schema) -> Px<Field> {
         match self {
             PhysExpr::Column(node) => node.to_field(alloc, input_schema),
@@ -67,6 +68,7 @@ impl PhysicalExpr for PhysExpr {
         }
     }
 
+    #[cycle(live)]
     fn collect_live_columns(&self, alloc: Global, lv: &mut IndexSet<Name>) -> Px<()> {
         match self {
             PhysExpr::Column(node) => node.collect_live_columns(alloc, lv),

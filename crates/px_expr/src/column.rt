@@ -1,5 +1,8 @@
 //! The column of a name.
-ghost use Rattle.px_expr.specs.Planned.{Planned};
+ghost use Rattle.std.specs.Prelude.{◌≡◌, IfSome, Some, drop, option_map};
+ghost use Rattle.px_frame.specs.External.{alone};
+ghost use Rattle.px_frame.specs.Frame.{look};
+ghost use Rattle.px_expr.specs.Planned.{found_by, is_added, is_reserved};
 
 use crate::node::ColumnExpr;
 use crate::physical::PhysicalExpr;
@@ -10,6 +13,44 @@ use px_plan::Expr;
 use px_window::ExecutionState;
 use std::alloc::Global;
 use std::sync::ledger::Ledger;
+
+/// The names that a plan keeps for columns which it adds itself begin so.
+const RESERVED_PREFIX: &[u8] = b"__POLARS_CSER_";
+
+fn is_reserved(name: &Name) -> bool
+    ensures { result ≡ is_reserved name.now }
+{
+    name.as_str().as_bytes().starts_with(RESERVED_PREFIX)
+}
+
+/// Whether it is a reserved name that the schema lacks.
+fn is_added(name: &Name, schema: &Schema) -> bool
+    ensures { result ≡ is_added (record { name = name.now; schema = schema.now }) }
+{
+    is_reserved(name) && schema.get_full(name).is_none()
+}
+
+/// The column of a name behind this many columns.
+fn column_behind<'a>(columns: &'a [Column], places: usize, name: &Name) -> Option<&'a Column>
+    ensures { option_map (λ c. c.now) result ≡ look name.now (drop places columns.now) }
+{
+    columns
+        .iter()
+        .skip(places)
+        .find(|column| column.name() == name)
+}
+
+/// The column that a node of this name finds, which was planned over this schema.
+fn found_column<'a>(df: &'a DataFrame, name: &Name, schema: &Schema) -> Option<&'a Column>
+    ensures found { option_map (λ c. c.now) result ≡ found_by (record { name = name.now; schema = schema.now }) (alone df.now) }
+    ensures column { IfSome result (λ c. look name.now df.now ≡ Some c.now) }
+{
+    if is_added(name, schema) {
+        column_behind(df.get_columns(), schema.len(), name)
+    } else {
+        df.column(name)
+    }
+}
 
 impl PhysicalExpr for ColumnExpr {
     ghost planned = { λ a. a };
@@ -26,7 +67,10 @@ impl PhysicalExpr for ColumnExpr {
         kernels: &mut Steps<L>,
         groupings: &mut Steps<M>,
     ) -> Px<Column> {
-        Err(PxError::OutOfMemory)
+        match found_column(df, &self.name, &self.schema) {
+            Some(column) => column.try_clone(alloc),
+            None => Err(PxError::ColumnNotFound(self.name.try_clone(alloc)?)),
+        }
     }
 
     fn evaluate_inline(&self, alloc: Global) -> Px<Option<Column>> {
@@ -34,15 +78,20 @@ impl PhysicalExpr for ColumnExpr {
     }
 
     fn evaluate_inline_impl(&self, alloc: Global, depth_limit: u8) -> Px<Option<Column>> {
-        Err(PxError::OutOfMemory)
+        let _ = &self.expr;
+        Ok(None)
     }
 
     fn to_field(&self, alloc: Global, input_schema: &Schema) -> Px<Field> {
-        Err(PxError::OutOfMemory)
+        match input_schema.get_field(alloc, &self.name)? {
+            Some(field) => Ok(field),
+            None => Err(PxError::ColumnNotFound(self.name.try_clone(alloc)?)),
+        }
     }
 
     fn collect_live_columns(&self, alloc: Global, lv: &mut IndexSet<Name>) -> Px<()> {
-        Err(PxError::OutOfMemory)
+        lv.insert_full(self.name.try_clone(alloc)?)?;
+        Ok(())
     }
 
     fn is_literal(&self) -> bool {

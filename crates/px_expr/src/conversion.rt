@@ -1,7 +1,12 @@
 //! What planning keeps beside the nodes.
-ghost use Rattle.std.specs.Prelude.{◌≡◌, false};
+ghost use Rattle.std.specs.Prelude.{◌≡◌, false, option_map};
+ghost use Rattle.px_plan.specs.View.{tree};
+ghost use Rattle.px_expr.specs.Depth.{depth_limit_of, written_depth_limit};
+ghost use Rattle.px_expr.specs.Plan.{noted};
 
-use px_column::Px;
+use crate::depth::{has_window, is_too_deep};
+use px_column::{ComputeWhy, Px, PxError};
+use px_plan::Expr;
 use std::default::Default;
 
 /// What is noted while expressions are planned (polars `ExpressionConversionState`).
@@ -27,5 +32,63 @@ impl ExpressionConversionState {
             too_deep: false,
             depth_limit,
         }
+    }
+
+    // What is noted once this expression is planned too.
+    pub(crate) fn noting(self, expr: &Expr) -> ExpressionConversionState
+        ensures { result ≡ noted (tree expr.now) self }
+    {
+        ExpressionConversionState {
+            has_windows: self.has_windows || has_window(expr),
+            too_deep: self.too_deep || is_too_deep(expr, self.depth_limit),
+            depth_limit: self.depth_limit,
+        }
+    }
+}
+
+/// What is noted while one expression is planned (polars `LocalConversionState`).
+#[derive(Clone, Copy, Debug, PartialEq, Eq)]
+pub struct LocalConversionState {
+    /// An Implode stands in it.
+    pub has_implode: bool,
+    /// A window stands in it.
+    pub has_window: bool,
+    /// A literal stands in it.
+    pub has_lit: bool,
+    /// How many nodes a path to a leaf may have.
+    pub depth_limit: u16,
+}
+
+impl Default for LocalConversionState {
+    ghost is_default = { λ s. s ≡ record { has_implode = false; has_window = false; has_lit = false; depth_limit = 500 } };
+
+    fn default() -> LocalConversionState {
+        LocalConversionState {
+            has_implode: false,
+            has_window: false,
+            has_lit: false,
+            depth_limit: 500,
+        }
+    }
+}
+
+/// The depth limit that a text sets: 512 without a text, and else the number that it writes in
+/// decimal digits, behind a plus or not. A number above 65535 is no limit, which 0 tells. Any other
+/// text, also a number of 2^64 or more, is refused with `DepthText` (polars `get_expr_depth_limit`).
+pub fn get_expr_depth_limit(text: Option<&str>) -> Px<u16>
+    ensures { result ≡ depth_limit_of (option_map (λ s. s.now) text.entry) }
+{
+    match text {
+        None => Ok(512),
+        Some(text) => written_depth_limit(text),
+    }
+}
+
+fn written_depth_limit(text: &str) -> Px<u16>
+    ensures { result ≡ written_depth_limit text.now }
+{
+    match text.parse::<u64>() {
+        Ok(number) => Ok(u16::try_from(number).unwrap_or(0)),
+        Err(_) => Err(PxError::ComputeError(ComputeWhy::DepthText)),
     }
 }

@@ -1,0 +1,163 @@
+//! How deep expressions are, and whether windows stand in them.
+ghost use Rattle.std.specs.Prelude.{◌≡◌, nat_le};
+ghost use Rattle.px_plan.specs.View.{tree, trees, agg_tree, order_tree};
+ghost use Rattle.px_expr.specs.Depth.{depth_of, all_depth_of, order_depth_of, has_window, have_window, is_too_deep};
+
+use px_column::SortOptions;
+use px_plan::{AggExpr, Expr, Exprs};
+
+/// Whether a window stands in an expression.
+#[cycle(windows)]
+pub(crate) fn has_window(expr: &Expr) -> bool
+    ensures { result ≡ has_window (tree expr.now) }
+{
+    match expr {
+        Expr::Column(_) => false,
+        Expr::Literal(_) => false,
+        Expr::Alias(expr, _) => has_window(expr),
+        Expr::BinaryExpr { left, right, .. } => has_window(left) || has_window(right),
+        Expr::Ternary {
+            predicate,
+            truthy,
+            falsy,
+        } => has_window(predicate) || has_window(truthy) || has_window(falsy),
+        Expr::Cast { expr, .. } => has_window(expr),
+        Expr::Function { input, .. } => have_window(input),
+        Expr::Explode(expr) => has_window(expr),
+        Expr::Filter { input, by } => has_window(input) || has_window(by),
+        Expr::Slice {
+            input,
+            offset,
+            length,
+        } => has_window(input) || has_window(offset) || has_window(length),
+        Expr::Gather { expr, idx, .. } => has_window(expr) || has_window(idx),
+        Expr::Sort { expr, .. } => has_window(expr),
+        Expr::SortBy { expr, by, .. } => has_window(expr) || have_window(by),
+        Expr::Agg(reduction) => reduces_window(reduction),
+        Expr::Len => false,
+        Expr::Window { .. } => true,
+    }
+}
+
+#[cycle(windows)]
+fn have_window(exprs: &Exprs) -> bool
+    ensures { result ≡ have_window (trees exprs.now) }
+{
+    for expr in &exprs.items {
+        if has_window(expr) {
+            return true;
+        }
+    }
+    false
+}
+
+#[cycle(windows)]
+fn reduces_window(reduction: &AggExpr) -> bool
+    ensures { result ≡ has_window (agg_tree reduction.now) }
+{
+    match reduction {
+        AggExpr::Min(input)
+        | AggExpr::Max(input)
+        | AggExpr::Sum(input)
+        | AggExpr::First(input)
+        | AggExpr::Last(input)
+        | AggExpr::NUnique(input)
+        | AggExpr::Implode(input)
+        | AggExpr::Count(input, _) => has_window(input),
+    }
+}
+
+/// Whether an expression is as deep as a limit: a path to a leaf has at least so many nodes. 0 is no
+/// limit.
+pub(crate) fn is_too_deep(expr: &Expr, limit: u16) -> bool
+    ensures { result ≡ is_too_deep limit (tree expr.now) }
+{
+    limit != 0 && reaches(expr, limit)
+}
+
+// Whether a path to a leaf has at least so many nodes.
+#[cycle(depth)]
+fn reaches(expr: &Expr, nodes: u16) -> bool
+    ensures { result ≡ nat_le nodes (depth_of (tree expr.now)) }
+{
+    let Some(below) = nodes.checked_sub(1) else {
+        return true;
+    };
+    match expr {
+        Expr::Column(_) => below == 0,
+        Expr::Literal(_) => below == 0,
+        Expr::Alias(expr, _) => reaches(expr, below),
+        Expr::BinaryExpr { left, right, .. } => reaches(left, below) || reaches(right, below),
+        Expr::Ternary {
+            predicate,
+            truthy,
+            falsy,
+        } => reaches(predicate, below) || reaches(truthy, below) || reaches(falsy, below),
+        Expr::Cast { expr, .. } => reaches(expr, below),
+        Expr::Function { input, .. } => one_reaches(input, below),
+        Expr::Explode(expr) => reaches(expr, below),
+        Expr::Filter { input, by } => reaches(input, below) || reaches(by, below),
+        Expr::Slice {
+            input,
+            offset,
+            length,
+        } => reaches(input, below) || reaches(offset, below) || reaches(length, below),
+        Expr::Gather { expr, idx, .. } => reaches(expr, below) || reaches(idx, below),
+        Expr::Sort { expr, .. } => reaches(expr, below),
+        Expr::SortBy { expr, by, .. } => reaches(expr, below) || one_reaches(by, below),
+        Expr::Agg(reduction) => reduced_reaches(reduction, nodes),
+        Expr::Len => below == 0,
+        Expr::Window {
+            function,
+            partition_by,
+            order_by,
+            ..
+        } => {
+            reaches(function, below)
+                || one_reaches(partition_by, below)
+                || order_reaches(order_by, below)
+        }
+    }
+}
+
+#[cycle(depth)]
+fn one_reaches(exprs: &Exprs, nodes: u16) -> bool
+    ensures { result ≡ nat_le nodes (all_depth_of (trees exprs.now)) }
+{
+    for expr in &exprs.items {
+        if reaches(expr, nodes) {
+            return true;
+        }
+    }
+    nodes == 0
+}
+
+#[cycle(depth)]
+fn order_reaches(order: &Option<(Box<Expr>, SortOptions)>, nodes: u16) -> bool
+    ensures { result ≡ nat_le nodes (order_depth_of (order_tree order.now)) }
+{
+    match order {
+        None => nodes == 0,
+        Some((key, _)) => reaches(key, nodes),
+    }
+}
+
+// The same of a reduction, which is a node itself.
+#[cycle(depth)]
+fn reduced_reaches(reduction: &AggExpr, nodes: u16) -> bool
+    ensures { result ≡ nat_le nodes (depth_of (agg_tree reduction.now)) }
+{
+    let Some(below) = nodes.checked_sub(1) else {
+        return true;
+    };
+    match reduction {
+        AggExpr::Min(input)
+        | AggExpr::Max(input)
+        | AggExpr::Sum(input)
+        | AggExpr::First(input)
+        | AggExpr::Last(input)
+        | AggExpr::NUnique(input)
+        | AggExpr::Implode(input)
+        | AggExpr::Count(input, _) => reaches(input, below),
+    }
+}
