@@ -8,6 +8,9 @@ ghost use Rattle.px_steps.specs.Causes.{AreSound, IsCauseIn, StepAnswers, StepsA
 ghost use Rattle.px_steps.specs.Plain.{AreValid, groupings_in, groupings_of, plain_on};
 ghost use Rattle.px_steps.specs.Step.{step_view};
 
+#[cfg(test)]
+mod tests;
+
 use crate::group_step::group_step;
 use crate::select_step::select_step;
 use crate::step::Step;
