@@ -47,7 +47,7 @@ impl GroupsIndicator<'_> {
     ghost use Rattle.px_frame.specs.GroupsView.{lent_group};
 
     /// The rows, lent.
-    pub(crate) fn rows(&self) -> &[u32]
+    pub fn rows(&self) -> &[u32]
         ensures { result.now ≡ (lent_group self.now).rows }
     {
         match self {

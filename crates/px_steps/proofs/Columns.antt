@@ -50,14 +50,14 @@ pub keys_of_groups : (ps : List (List ℕ)) (by : List Series) → map (key_colu
 keys_of_groups ps [] = refl
 keys_of_groups ps (s ∷ by) = λ i. record s { slots = key_slots s ps i } ∷ keys_of_groups ps by i
 
-names_of_keys : (ps : List (List ℕ)) (by : List Series) → names_of (map (key_values ps) by) ≡ names_of by
+pub names_of_keys : (ps : List (List ℕ)) (by : List Series) → names_of (map (key_values ps) by) ≡ names_of by
 names_of_keys ps [] = refl
 names_of_keys ps (s ∷ by) = ap (λ ns. s.name ∷ ns) (names_of_keys ps by)
 
-has_length : (n : ℕ) (s : Series) → length s.slots ≡ n → has_height n s ≡ true
+pub has_length : (n : ℕ) (s : Series) → length s.slots ≡ n → has_height n s ≡ true
 has_length n s h = grind (arith, nat_tests)
 
-heights_of_keys : (ps : List (List ℕ)) (by : List Series) → all_have_height (length ps) (map (key_values ps) by) ≡ true
+pub heights_of_keys : (ps : List (List ℕ)) (by : List Series) → all_have_height (length ps) (map (key_values ps) by) ≡ true
 heights_of_keys ps [] = refl
 heights_of_keys ps (s ∷ by) = λ i. has_length (length ps) (key_values ps s) (length-map ps (λ p. slot_at s.slots (first_row p))) i && heights_of_keys ps by i
 
@@ -80,7 +80,7 @@ aggregated_height frame ps t c e =
     let made = map_some (kind_on t frame) (λ k. record { name = name_of t; kind = grouped_kind (is_unit t) k; slots = map (value_on_part frame t) ps }) c e in
     has_length (length ps) c (ap (λ s. length s.slots) (sym made.2) ∙ length-map ps (value_on_part frame t))
 
-all_true : {X : Type 0} (test : Series → Bool) (xs : List X) (made : List Series) → map test made ≡ map (λ _. true) xs → list_all test made ≡ true
+pub all_true : {X : Type 0} (test : Series → Bool) (xs : List X) (made : List Series) → map test made ≡ map (λ _. true) xs → list_all test made ≡ true
 all_true test xs [] e = refl
 all_true test [] (c ∷ made) e = cc
 all_true test (x ∷ xs) (c ∷ made) e = let first : test c ≡ true = cc in let rest : map test made ≡ map (λ _. true) xs = cc in λ i. first i && all_true test xs made rest i
@@ -97,7 +97,7 @@ all_append test (x ∷ xs) ys h k = by (test x) (list_all test xs) h (all_append
     by true b e rest = rest e k
     by false b e rest = cc
 
-map_append : {A B : Type 0} (f : A → B) (xs ys : List A) → map f (xs ++ ys) ≡ map f xs ++ map f ys
+pub map_append : {A B : Type 0} (f : A → B) (xs ys : List A) → map f (xs ++ ys) ≡ map f xs ++ map f ys
 map_append f [] ys = refl
 map_append f (x ∷ xs) ys = ap (λ zs. f x ∷ zs) (map_append f xs ys)
 
@@ -112,7 +112,7 @@ un_not : (b : Bool) → not b ≡ true → b ≡ false
 un_not true h = cc
 un_not false h = refl
 
-even_from : (n : ℕ) (columns : List Series) → all_have_height n columns ≡ true → is_even columns ≡ true
+pub even_from : (n : ℕ) (columns : List Series) → all_have_height n columns ≡ true → is_even columns ≡ true
 even_from n [] h = refl
 even_from n (s ∷ columns) h = subst (λ (m : ℕ). all_have_height m (s ∷ columns) ≡ true) (its_length n s (both (has_height n s) (all_have_height n columns) h).0) h
 

@@ -4,6 +4,9 @@ pub mod Taking
 pub mod Separated
 pub mod Named
 pub mod Selected
+pub mod Members
+pub mod Grouping
+pub mod GroupStep
 pub mod CellLoop
 pub mod Grouped
 pub mod Columns

@@ -124,8 +124,8 @@ lengths_on_parts : (s : Series) (frame : List Series) (groups : List Group) → 
 lengths_on_parts s frame [] = refl
 lengths_on_parts s frame (g ∷ gs) = λ i. Some (integer (pos (sym (length-map g.rows (slot_at s.slots)) i))) ∷ lengths_on_parts s frame gs i
 
-pub lengths_meet : (frame : List Series) (g : Groups) → 0 < length frame → aggregated_on frame (rows_of g) len ≡ Some (record { name = name_of len; kind = uint32s; slots = counts_of g })
-lengths_meet [] g h = absurd (omega (arith, h))
+pub lengths_meet : (frame : List Series) (g : Groups) → (frame ≡ [] → g.groups ≡ []) → aggregated_on frame (rows_of g) len ≡ Some (record { name = name_of len; kind = uint32s; slots = counts_of g })
+lengths_meet [] g h = rw (h refl) refl
 lengths_meet (s ∷ frame) g h = λ i. Some (record { name = name_of len; kind = uint32s; slots = sym (lengths_on_parts s frame g.groups) i })
 
 first_stays : (some more : List PxError) (e : PxError) → first_of some ≡ Some e → first_of (some ++ more) ≡ Some e

@@ -29,11 +29,13 @@ use Rattle.px_plan.specs.Nodes.{leaf_names}
 use Rattle.px_plan.specs.Shape.{is_unit, name_of}
 use Rattle.px_plan.specs.Size.{size_on}
 use Rattle.px_plan.specs.Tree.{Tree, column, literal, alias, agg, len}
-use Rattle.px_plan.specs.Typing.{Scope, kind_in, kind_of_name, refusals_of, refused_where, refusal_of, refusal_of_one, made_kind, literal_kind, or_first, first_or_kind}
+use Rattle.px_plan.specs.Typing.{Scope, kind_in, kind_of_name, refusals_of, refused_where, refusal_of, refusal_of_one, made_kind, literal_kind, on_groups, grouped_reduction_refusals, or_first, first_or_kind}
 use Rattle.px_plan.specs.Value.{faults_on, is_misfit, has_misfit, value_on, named}
+use Rattle.px_plan.specs.declared.context.Context.{Context}
 use Rattle.px_plan.specs.declared.context.Context.TheVariants.{Default}
 use Rattle.px_steps.specs.DirectLaws.{field-look}
 use Rattle.px_steps.specs.Meets.{MeetsBy, IsFirst}
+use Rattle.px_steps.specs.Finds.{Lacks}
 use Rattle.px_steps.specs.Causes.{IsCauseOfAny, IsSound, IsStepCause, StepAnswers}
 use Rattle.px_steps.specs.Plain.{first_of, first_refusal, frame_refusals, greatest, named_value, misfit_faults, refused_by, repeat_refusal, step_faults, step_on, step_refusals, uneven_fault}
 use Rattle.px_steps.specs.Step.{PlainStep, select}
@@ -50,11 +52,11 @@ pub nil_right : {A : Type 0} (xs ys : List A) → xs ++ ys ≡ [] → ys ≡ []
 nil_right [] ys h = h
 nil_right (x ∷ xs) ys h = cc
 
-inputs_none : (inputs own : List PxError) → or_first inputs own ≡ [] → inputs ≡ []
+pub inputs_none : (inputs own : List PxError) → or_first inputs own ≡ [] → inputs ≡ []
 inputs_none [] own h = refl
 inputs_none (e ∷ es) own h = cc
 
-own_none : (inputs own : List PxError) → or_first inputs own ≡ [] → own ≡ []
+pub own_none : (inputs own : List PxError) → or_first inputs own ≡ [] → own ≡ []
 own_none [] [] h = refl
 own_none [] (e ∷ es) h = cc
 own_none (e ∷ es) own h = cc
@@ -72,22 +74,23 @@ typed_there (Ok k) h = (k, refl)
 typed_there (Err e) h = cc
 
 -- an expression that is not refused has a type
-pub kind_there : (t : Tree) (scope : Scope) → is_built_tree t ≡ true → refusals_of t scope Default ≡ [] → There (kind_in t scope)
-kind_there (column n) scope b h = name_there (kind_of_name n scope) (ColumnNotFound n) h
-kind_there (literal v) scope b h = (literal_kind v, refl)
-kind_there (alias e n) scope b h = kind_there e scope b h
-kind_there (agg m e) scope b h =
-    let input = kind_there e scope (both (is_sum m) (is_built_tree e) b).1 (inputs_none (refusals_of e scope Default) _ h) in
-    let own : refusal_of (reduced_kind m input.0) ≡ [] = (λ i. refusal_of_one (reduced_kind m) (sym input.1 i)) ∙ own_none (refusals_of e scope Default) _ h in
+pub kind_there : (t : Tree) (scope : Scope) (place : Context) → is_built_tree t ≡ true → refusals_of t scope place ≡ [] → There (kind_in t scope)
+kind_there (column n) scope place b h = name_there (kind_of_name n scope) (ColumnNotFound n) h
+kind_there (literal v) scope place b h = (literal_kind v, refl)
+kind_there (alias e n) scope place b h = kind_there e scope place b h
+kind_there (agg m e) scope place b h =
+    let input = kind_there e scope place (both (is_sum m) (is_built_tree e) b).1 (inputs_none (refusals_of e scope place) _ h) in
+    let typed = nil_right (on_groups place (grouped_reduction_refusals m e)) _ (own_none (refusals_of e scope place) _ h) in
+    let own : refusal_of (reduced_kind m input.0) ≡ [] = (λ i. refusal_of_one (reduced_kind m) (sym input.1 i)) ∙ typed in
     let k = typed_there (reduced_kind m input.0) own in
     (k.0, ap (λ o. option_and_then (λ j. made_kind (reduced_kind m j)) o) input.1 ∙ k.1)
-kind_there len scope b h = (_, refl)
-kind_there _ scope b h = cc
+kind_there len scope place b h = (_, refl)
+kind_there _ scope place b h = cc
 
 -- the planner's answer is told by the refusals
-pub planned_meets : {X : Type 0} (view : X → Planned) (t : Tree) (scope : Scope) (r : Result X PxError) → is_built_tree t ≡ true
-    → AnswersBy view r (plan_in None t scope Default) → MeetsBy view r (refusals_of t scope Default) (Some (planned_over scope t))
-planned_meets {X} view t scope r b a = by (refusals_of t scope Default) (kind_in t scope) (kind_there t scope b) r a
+pub planned_meets : {X : Type 0} (view : X → Planned) (t : Tree) (scope : Scope) (place : Context) (r : Result X PxError) → is_built_tree t ≡ true
+    → AnswersBy view r (plan_in None t scope place) → MeetsBy view r (refusals_of t scope place) (Some (planned_over scope t))
+planned_meets {X} view t scope place r b a = by (refusals_of t scope place) (kind_in t scope) (kind_there t scope place b) r a
   where
     by : (R : List PxError) (K : Option Kind) → (R ≡ [] → There K) → (r : Result X PxError)
         → AnswersBy view r (first_or_kind R K >>= λ k. Ok (planned_over scope t))
@@ -166,11 +169,7 @@ pub one_right : (e : PxError) (xs ys : List PxError) → IsOneOf e ys → IsOneO
 one_right e [] ys h = h
 one_right e (x ∷ xs) ys h = inr (one_right e xs ys h)
 
--- memory was wanting, or one of some faults stands, or so many values are too many
-abbrev pub Lacks : PxError → List PxError → ℕ → Type 0
-Lacks e faults n = (e ≡ OutOfMemory) ⊎ (IsOneOf e faults ⊎ ((e ≡ ComputeError TooLong) × (2 ^ 32 ≤ n)))
-
-cause_lacks : (e : PxError) (p : Planned) (frame : Frame) → IsCause e p frame → Lacks e (causes_on p frame) (size_on p.tree (frame ∷ []))
+pub cause_lacks : (e : PxError) (p : Planned) (frame : Frame) → IsCause e p frame → Lacks e (causes_on p frame) (size_on p.tree (frame ∷ []))
 cause_lacks OutOfMemory p frame h = inl refl
 cause_lacks (ComputeError TooLong) p frame h = inr (inr (refl, h))
 cause_lacks (ComputeError w) p frame h = inr (inl h)
@@ -182,7 +181,7 @@ cause_lacks ShapeMismatch p frame h = inr (inl h)
 cause_lacks SchemaMismatch p frame h = inr (inl h)
 
 -- the causes of an expression that is not refused are its faults
-faults_alone : (cs : List Series) (t : Tree) → is_built_tree t ≡ true → refusals_of t (map column_field cs) Default ≡ [] → causes_on (planned_over (map column_field cs) t) (alone cs) ≡ faults_on t (alone cs)
+pub faults_alone : (cs : List Series) (t : Tree) → is_built_tree t ≡ true → refusals_of t (map column_field cs) Default ≡ [] → causes_on (planned_over (map column_field cs) t) (alone cs) ≡ faults_on t (alone cs)
 faults_alone cs t b h = λ i. ((h i ++ leaves_found cs t b h i) ++ refused_where (no_misfit cs (leaf_names t) i) ShapeMismatch) ++ faults_on t (alone cs)
 
 lacks_first : (e : PxError) (xs ys : List PxError) (m n : ℕ) → Lacks e xs m → Lacks e (xs ++ ys) (max m n)
@@ -288,7 +287,7 @@ filtered {A} {B} f (x ∷ xs) ys h = by (f x) (each f xs) (filtered f xs) refl h
     by (Some y) None more e g = cc
     by (Some y) (Some zs) more e g = let same : y ∷ zs ≡ ys = cc in rw (e, more zs refl) same
 
-name_kept : (frame : Frame) (t : Tree) (c : NamedCell) → named_value frame t ≡ Some c → c.name ≡ name_of t
+pub name_kept : (frame : Frame) (t : Tree) (c : NamedCell) → named_value frame t ≡ Some c → c.name ≡ name_of t
 name_kept frame t c h = by (value_on t frame) (kind_in t (scope_of frame)) h
   where
     by : (v : Option Cell) (k : Option Kind) → option_and_then (λ x. option_map (λ j. record { name = name_of t; kind = j; cell = x }) k) v ≡ Some c → c.name ≡ name_of t
@@ -300,12 +299,12 @@ names_kept : (frame : Frame) (ts : List Tree) (cells : List NamedCell) → each 
 names_kept frame ts cells h = made_each (named_value frame) (λ c. c.name) name_of ts cells (name_kept frame) h
 
 -- nothing stands twice
-once_none : (o : Option (List ℕ)) → option_map_or (λ n. Duplicate n ∷ []) o [] ≡ [] → o ≡ None
+pub once_none : (o : Option (List ℕ)) → option_map_or (λ n. Duplicate n ∷ []) o [] ≡ [] → o ≡ None
 once_none None h = refl
 once_none (Some n) h = cc
 
 -- memory was wanting, or a refusal that is told
-refuses_or : {Y : Type 0} (e : PxError) (r : Result Y PxError) → Refuses e r → (e ≡ OutOfMemory) ⊎ (r ≡ Err e)
+pub refuses_or : {Y : Type 0} (e : PxError) (r : Result Y PxError) → Refuses e r → (e ≡ OutOfMemory) ⊎ (r ≡ Err e)
 refuses_or OutOfMemory r h = inl refl
 refuses_or (ColumnNotFound n) r h = inr h
 refuses_or (Duplicate n) r h = inr h

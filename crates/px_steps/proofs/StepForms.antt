@@ -1,5 +1,5 @@
 -- What the reader takes of all forms of a step and of a document.
-use Rattle.std.proofs.Common.{◌≡◌, ◌≤◌, ◌<◌, ℕ, Bool, true, false, cond, ◌&&◌, List, [], ◌∷◌, Option, Some, None, ◌⊎◌, inl, inr, option_map, option_and_then, length, codes, refl, sym, ◌∙◌, ap, arith, subst}
+use Rattle.std.proofs.Common.{◌≡◌, ◌≤◌, ◌<◌, ℕ, Bool, true, false, cond, ◌&&◌, List, [], ◌∷◌, Option, Some, None, option_map, option_and_then, length, codes, refl, sym, ◌∙◌, ap, arith, subst}
 use Rattle.std.specs.List.{list_all}
 use Rattle.std.specs.Option.{option_or}
 use Rattle.std.specs.Prelude.{Result, nat_le}
@@ -10,13 +10,13 @@ use Rattle.serde_json.specs.Data.{Data}
 use Rattle.serde_json.specs.Find.{as_null}
 use Rattle.px_column.specs.Option.{◌>>=◌, each}
 use Rattle.px_column.specs.Series.{Series}
-use Rattle.px_plan.specs.Tree.{Tree, column, literal, alias, binary, ternary, cast, function, filter as filter', slice, gather, sort, sort_by, agg, len, window}
+use Rattle.px_plan.specs.Tree.{Tree}
 use Rattle.px_steps.specs.Document.{Doc, column_of}
 use Rattle.px_steps.specs.ExprForm.{expr_of}
 use Rattle.px_steps.specs.Form.{ReadsBy, field, fields, items, only_member, single_member}
 use Rattle.px_steps.specs.Readable.{is_readable_document, only_if}
-use Rattle.px_expr.specs.Built.{is_built_tree, is_sum}
-use Rattle.px_steps.specs.Built.{is_built, is_built_agg, is_built_key}
+use Rattle.px_expr.specs.Built.{is_built_tree}
+use Rattle.px_steps.specs.Built.{is_built}
 use Rattle.px_steps.specs.Step.{PlainStep, select, filter, group}
 use Rattle.px_steps.specs.StepForm.{chunk_length_of, chunks_of, group_parts, any_step_of, any_steps_of, any_document_parts}
 use Rattle.px_steps.specs.Step.{step_view}
@@ -86,73 +86,3 @@ few_taken ds h = let few : nat_le (length ds) 64 ≡ true = grind (arith, nat_te
 
 pub many_taken : (ds : List Data) → 64 < length ds → any_steps_of ds ≡ None
 many_taken ds h = let many : nat_le (length ds) 64 ≡ false = grind (arith, nat_tests) in ap (λ b. cond b (each any_step_of ds) None) many
-
-both : (a b : Bool) → (a && b) ≡ false → (a ≡ false) ⊎ (b ≡ false)
-both true b h = inr h
-both false b h = inl refl
-
--- where not all pass one test, not all pass a narrower one
-all_narrowed : (wide narrow : Tree → Bool) → ((t : Tree) → wide t ≡ false → narrow t ≡ false) → (ts : List Tree) → list_all wide ts ≡ false → list_all narrow ts ≡ false
-all_narrowed wide narrow f [] h = absurd (cc h)
-all_narrowed wide narrow f (t ∷ ts) h = by (both (wide t) (list_all wide ts) h) (all_narrowed wide narrow f ts)
-  where
-    by : (wide t ≡ false) ⊎ (list_all wide ts ≡ false) → (list_all wide ts ≡ false → list_all narrow ts ≡ false) → (narrow t && list_all narrow ts) ≡ false
-    by (inl g) rest = ap (λ b. b && list_all narrow ts) (f t g)
-    by (inr g) rest = last (narrow t) (rest g)
-      where
-        last : (b : Bool) → list_all narrow ts ≡ false → (b && list_all narrow ts) ≡ false
-        last true k = k
-        last false k = refl
-
-narrowed : (wide narrow : Tree → Bool) → ((t : Tree) → wide t ≡ false → narrow t ≡ false) → (o : Option (List Tree)) → only_if (list_all wide) o ≡ None → only_if (list_all narrow) o ≡ None
-narrowed wide narrow f None h = refl
-narrowed wide narrow f (Some ts) h = by (list_all wide ts) refl h
-  where
-    by : (b : Bool) → list_all wide ts ≡ b → cond b (Some ts) None ≡ None → only_if (list_all narrow) (Some ts) ≡ None
-    by true e g = absurd (cc g)
-    by false e g = ap (λ b. cond b (Some ts) None) (all_narrowed wide narrow f ts e)
-
-no_key : (t : Tree) → is_built_tree t ≡ false → is_built_key t ≡ false
-no_key (column n) h = absurd (cc h)
-no_key (literal v) h = refl
-no_key (alias e n) h = refl
-no_key (binary l op r) h = refl
-no_key (ternary p a b) h = refl
-no_key (cast e k options) h = refl
-no_key (function es f) h = refl
-no_key (filter' e by) h = refl
-no_key (slice e offset length) h = refl
-no_key (gather e idx one) h = refl
-no_key (sort e options) h = refl
-no_key (sort_by e by options) h = refl
-no_key (agg m e) h = refl
-no_key len h = refl
-no_key (window f keys order mapping) h = refl
-
-no_agg : (t : Tree) → is_built_tree t ≡ false → is_built_agg t ≡ false
-no_agg (column n) h = refl
-no_agg (literal v) h = refl
-no_agg (alias e n) h = refl
-no_agg (binary l op r) h = refl
-no_agg (ternary p a b) h = refl
-no_agg (cast e k options) h = refl
-no_agg (function es f) h = refl
-no_agg (filter' e by) h = refl
-no_agg (slice e offset length) h = refl
-no_agg (gather e idx one) h = refl
-no_agg (sort e options) h = refl
-no_agg (sort_by e by options) h = refl
-no_agg (agg m e) h = by (is_sum m) (no_key e) h
-  where
-    by : (b : Bool) → (is_built_tree e ≡ false → is_built_key e ≡ false) → (b && is_built_tree e) ≡ false → (b && is_built_key e) ≡ false
-    by true f g = f g
-    by false f g = refl
-no_agg len h = absurd (cc h)
-no_agg (window f keys order mapping) h = refl
-
--- what is no list of expressions that are read is no list of keys, and none of aggregations
-pub keys_narrowed : (o : Option (List Tree)) → only_if (list_all is_built_tree) o ≡ None → only_if (list_all is_built_key) o ≡ None
-keys_narrowed o h = narrowed is_built_tree is_built_key no_key o h
-
-pub aggs_narrowed : (o : Option (List Tree)) → only_if (list_all is_built_tree) o ≡ None → only_if (list_all is_built_agg) o ≡ None
-aggs_narrowed o h = narrowed is_built_tree is_built_agg no_agg o h

@@ -1,5 +1,4 @@
--- The steps that are run today: selects of the expressions that have nodes, and groups by columns, with sums of columns and
--- lengths.
+-- The steps that are run today, and those of them that are taken over groups in place.
 use Rattle.std.specs.Prelude.{Bool, true, false, ◌&&◌, not, List, None}
 use Rattle.std.specs.List.{list_all}
 use Rattle.px_column.specs.Series.{Series}
@@ -25,10 +24,11 @@ abbrev pub is_built_group : PlainStep → Bool
 is_built_group (group keys aggs None) = list_all is_built_key keys && list_all is_built_agg aggs
 is_built_group _ = false
 
--- a step that is run: a select step of expressions that have nodes, or such a group step
+-- a step that is run: a select step, or a group step without chunks, of expressions that have nodes
 abbrev pub is_built : PlainStep → Bool
 is_built (select es) = list_all is_built_tree es
-is_built s = is_built_group s
+is_built (group keys aggs None) = list_all is_built_tree keys && list_all is_built_tree aggs
+is_built _ = false
 
 -- a column can be a key of a frame: it is no list, and has the frame's height
 abbrev pub is_key : List Series → Series → Bool

@@ -94,7 +94,7 @@ key_refused n frame = by (look n frame) refl
     by None e = rw (kind_missing n frame e, e) refl
     by (Some s) e = rw (kind_found n frame s e, e) (list_refused s.kind)
 
-sum_refused : (n : List ℕ) (frame : List Series) → plain.agg_refusals (alone frame) (agg Sum (column n)) ≡ direct.agg_refusals frame (agg Sum (column n))
+pub sum_refused : (n : List ℕ) (frame : List Series) → plain.agg_refusals (alone frame) (agg Sum (column n)) ≡ direct.agg_refusals frame (agg Sum (column n))
 sum_refused n frame = by (look n frame) refl
   where
     typed : (s : Series) → look n frame ≡ Some s → (o : Option Kind) → sum_kind s.kind ≡ o → plain.agg_refusals (alone frame) (agg Sum (column n)) ≡ direct.agg_refusals frame (agg Sum (column n))
@@ -118,7 +118,7 @@ each_some : {A B : Type 0} (f : A → Option B) (g : A → B) (xs : List A) → 
 each_some f g [] h = refl
 each_some f g (x ∷ xs) h = rw (h x, each_some f g xs h) refl
 
-sum_same : (n : List ℕ) (frame : List Series) (parts : List (List ℕ)) → plain.aggregated_on (alone frame) parts (agg Sum (column n)) ≡ direct.aggregated_on frame parts (agg Sum (column n))
+pub sum_same : (n : List ℕ) (frame : List Series) (parts : List (List ℕ)) → plain.aggregated_on (alone frame) parts (agg Sum (column n)) ≡ direct.aggregated_on frame parts (agg Sum (column n))
 sum_same n frame parts = by (look n frame) refl
   where
     part : (s : Series) (k : Kind) → look n frame ≡ Some s → sum_kind s.kind ≡ Some k → (p : List ℕ) → plain.value_on_part (alone frame) (agg Sum (column n)) p ≡ Some (direct.value_on_part frame (agg Sum (column n)) p)
@@ -137,7 +137,7 @@ sum_same n frame parts = by (look n frame) refl
     by None e = rw (kind_missing n frame e, e) refl
     by (Some s) e = typed s e (sum_kind s.kind) refl
 
-len_same : (frame : List Series) (parts : List (List ℕ)) → plain.aggregated_on (alone frame) parts len ≡ direct.aggregated_on frame parts len
+pub len_same : (frame : List Series) (parts : List (List ℕ)) → plain.aggregated_on (alone frame) parts len ≡ direct.aggregated_on frame parts len
 len_same frame parts =
     let values : each (plain.value_on_part (alone frame) len) parts ≡ Some (map (direct.value_on_part frame len) parts)
     = each_some (plain.value_on_part (alone frame) len) (direct.value_on_part frame len) parts (λ p. refl) in

@@ -12,6 +12,7 @@ pub mod Plain
 pub mod Direct
 pub mod Built
 pub mod Causes
+pub mod Finds
 pub mod Readable
 pub mod DocumentText
 pub mod DirectLaws

@@ -1,10 +1,12 @@
 //! Steps over frames: read from a document, run, and written as text.
 #![tactic(auto)]
 
+mod aggregated;
 mod document;
 mod group_step;
 mod label;
 mod memory;
+mod planned;
 mod reply;
 pub mod run;
 mod runner;

@@ -34,11 +34,10 @@ fn run_step<L: Ledger, M: Ledger>(
     ensures state { state.new ≡ state.old }
     ensures grouped { OnOk result (groupings.new ≡ groupings.old + groupings_in (step_view step.now)) }
 {
-    let _columns = frame.get_columns();
     match step {
         Step::Select(exprs) => select_step(alloc, frame, exprs, state, kernels, groupings),
         Step::GroupAgg { keys, aggs, .. } => {
-            group_step(alloc, frame, keys, aggs, kernels, groupings)
+            group_step(alloc, frame, keys, aggs, state, kernels, groupings)
         }
         Step::Filter(_) => unreachable!(),
     }

@@ -17,38 +17,16 @@ ghost use Rattle.px_steps.specs.Meets.{Meets, MeetsBy};
 ghost use Rattle.px_steps.specs.Plain.{named_value, repeat_refusal};
 ghost use Rattle.px_steps.specs.Step.{select};
 
+use crate::planned::{add_names, cell_on, planned};
 use indexmap::IndexSet;
-use px_column::{Px, PxError, Steps};
-use px_expr::{ExpressionConversionState, PhysExpr, PhysicalExpr, create_physical_expr};
-use px_frame::{Cell, DataFrame, SchemaRef, UnitColumn, add_name, assemble};
-use px_plan::{Arena, Context, Expr, ExprIR, fits_arena, output_name, to_arena};
+use px_column::{Px, Steps};
+use px_expr::PhysExpr;
+use px_frame::{Cell, DataFrame, SchemaRef, assemble};
+use px_plan::{Context, Expr};
 use px_window::ExecutionState;
 use std::alloc::Global;
 use std::rc::Rc;
 use std::sync::ledger::Ledger;
-
-/// The node of an expression over a schema, or its first refusal.
-#[tactic(auto, using(crate::proofs::Selected::planned_meets))]
-fn planned(alloc: Global, expr: &Expr, schema: &SchemaRef) -> Px<PhysExpr>
-    requires { is_built_tree (tree expr.now) ≡ true }
-    ensures { MeetsBy plan_of result (refusals_of (tree expr.now) schema.now.value Default) (Some (planned_over schema.now.value (tree expr.now))) }
-{
-    let mut arena = Arena::new(alloc)?;
-    if !fits_arena(expr, &arena) {
-        return Err(PxError::OutOfMemory);
-    }
-    let node = to_arena(alloc, expr, &mut arena)?;
-    let expr_ir = ExprIR::new(node, None);
-    let mut noted = ExpressionConversionState::new(0);
-    create_physical_expr(
-        alloc,
-        &expr_ir,
-        Context::Default,
-        &arena,
-        schema,
-        &mut noted,
-    )
-}
 
 /// The nodes of some expressions over a schema, or the first refusal from the left.
 #[tactic(auto, using(crate::proofs::Named::IsFirst_append))]
@@ -59,7 +37,7 @@ fn all_planned(alloc: Global, exprs: &[Expr], schema: &SchemaRef) -> Px<Vec<Phys
 {
     let mut nodes = Vec::with_capacity(alloc, exprs.len())?;
     for expr in exprs {
-        nodes.push(planned(alloc, expr, schema)?)?;
+        nodes.push(planned(alloc, expr, schema, Context::Default)?)?;
     }
     Ok(nodes)
 }
@@ -68,34 +46,7 @@ fn all_planned(alloc: Global, exprs: &[Expr], schema: &SchemaRef) -> Px<Vec<Phys
 fn distinct_names(alloc: Global, exprs: &[Expr]) -> Px<()>
     ensures { Meets result (repeat_refusal (map tree exprs.now)) (Some tt) }
 {
-    let mut names = IndexSet::new(alloc);
-    for expr in exprs {
-        add_name(alloc, &mut names, &output_name(alloc, expr)?)?;
-    }
-    Ok(())
-}
-
-/// The value of a planned expression, as one value or one for each of some rows.
-fn cell_on<L: Ledger, M: Ledger>(
-    alloc: Global,
-    frame: &DataFrame,
-    node: &PhysExpr,
-    state: &mut ExecutionState,
-    kernels: &mut Steps<L>,
-    groupings: &mut Steps<M>,
-) -> Px<Cell>
-    ensures value { IfOk result (λ c. named_value (alone frame.now) (plan_of node.now).tree ≡ Some (named_cell c)) }
-    ensures sound { OnOk result (faults_on (plan_of node.now).tree (alone frame.now) ≡ []) }
-    ensures causes { IfErr result (λ e. IsCause e (plan_of node.now) (alone frame.now)) }
-    ensures state { state.new ≡ state.old }
-    ensures grouped { groupings.new ≡ groupings.old }
-{
-    let column = node.evaluate(alloc, frame, state, kernels, groupings)?;
-    if node.is_scalar() {
-        Ok(Cell::Unit(UnitColumn::new(column)))
-    } else {
-        Ok(Cell::Rows(column))
-    }
+    add_names(alloc, &mut IndexSet::new(alloc), exprs)
 }
 
 /// The values of some planned expressions.

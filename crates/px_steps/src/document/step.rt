@@ -1,13 +1,12 @@
 //! Reading steps.
-ghost use Rattle.std.specs.Prelude.{◌≡◌, [], ◌∷◌, codes, map, option_and_then, option_map};
+ghost use Rattle.std.specs.Prelude.{[], ◌∷◌, codes, map, option_and_then, option_map};
 ghost use Rattle.std.specs.List.{list_all};
 ghost use Rattle.serde_json.specs.View.{view};
 ghost use Rattle.px_column.specs.Option.{each};
-ghost use Rattle.px_plan.specs.View.{agg_tree, tree};
 ghost use Rattle.px_steps.specs.ExprForm.{expr_of};
 ghost use Rattle.px_steps.specs.Form.{ReadsBy, fields, items};
 ghost use Rattle.px_steps.specs.Readable.{only_if};
-ghost use Rattle.px_steps.specs.Built.{is_built, is_built_agg, is_built_key};
+ghost use Rattle.px_steps.specs.Built.{is_built};
 ghost use Rattle.px_steps.specs.Step.{select, step_view};
 ghost use Rattle.px_steps.specs.StepForm.{any_step_of, any_steps_of, group_parts};
 
@@ -15,7 +14,6 @@ use crate::document::expr::read_exprs;
 use crate::document::fault::DocumentFault;
 use crate::document::fields::{items, only_member, three_fields};
 use crate::step::Step;
-use px_plan::{AggExpr, Expr};
 use serde_json::Value;
 use std::alloc::Global;
 
@@ -29,97 +27,14 @@ fn read_select(alloc: Global, value: &Value) -> Result<Step, DocumentFault>
     Ok(Step::Select(read_exprs(alloc, value)?))
 }
 
-/// A column, by which groups are formed.
-fn is_group_key(expr: &Expr) -> bool
-    ensures { result ≡ is_built_key (tree expr.now) }
-{
-    matches!(expr, Expr::Column(_))
-}
-
-/// The sum of a column.
-fn is_column_sum(reduction: &AggExpr) -> bool
-    ensures { result ≡ is_built_agg (agg_tree reduction.now) }
-{
-    match reduction {
-        AggExpr::Sum(input) => is_group_key(input),
-        AggExpr::Min(_)
-        | AggExpr::Max(_)
-        | AggExpr::First(_)
-        | AggExpr::Last(_)
-        | AggExpr::NUnique(_)
-        | AggExpr::Implode(_)
-        | AggExpr::Count(..) => false,
-    }
-}
-
-/// The sum of a column, or the length.
-fn is_group_agg(expr: &Expr) -> bool
-    ensures { result ≡ is_built_agg (tree expr.now) }
-{
-    match expr {
-        Expr::Len => true,
-        Expr::Agg(reduction) => is_column_sum(reduction),
-        _ => false,
-    }
-}
-
-fn are_group_keys(exprs: &[Expr]) -> bool
-    ensures { result ≡ list_all is_built_key (map tree exprs.now) }
-{
-    for expr in exprs {
-        if !is_group_key(expr) {
-            return false;
-        }
-    }
-    true
-}
-
-fn are_group_aggs(exprs: &[Expr]) -> bool
-    ensures { result ≡ list_all is_built_agg (map tree exprs.now) }
-{
-    for expr in exprs {
-        if !is_group_agg(expr) {
-            return false;
-        }
-    }
-    true
-}
-
-/// The keys of a group step, each of which is a column.
-#[tactic(auto, using(crate::proofs::StepForms::keys_narrowed))]
-fn read_keys(alloc: Global, value: &Value) -> Result<Vec<Expr>, DocumentFault>
-    ensures { ReadsBy (λ v. map tree v.items) result (only_if (list_all is_built_key) (option_and_then (each expr_of) (items (view value.now)))) }
-{
-    let keys = read_exprs(alloc, value)?;
-    if are_group_keys(&keys) {
-        Ok(keys)
-    } else {
-        Err(DocumentFault::BadDocument)
-    }
-}
-
-/// The aggregations of a group step, each of which is the sum of a column or the length.
-#[tactic(auto, using(crate::proofs::StepForms::aggs_narrowed))]
-fn read_aggs(alloc: Global, value: &Value) -> Result<Vec<Expr>, DocumentFault>
-    ensures { ReadsBy (λ v. map tree v.items) result (only_if (list_all is_built_agg) (option_and_then (each expr_of) (items (view value.now)))) }
-{
-    let aggs = read_exprs(alloc, value)?;
-    if are_group_aggs(&aggs) {
-        Ok(aggs)
-    } else {
-        Err(DocumentFault::BadDocument)
-    }
-}
-
-/// The parts of a group step: `{"keys": [e..], "aggs": [e..], "chunks": null}`, of which the keys are
-/// columns, and the aggregations sums of columns and lengths.
+/// The parts of a group step: `{"keys": [e..], "aggs": [e..], "chunks": null}`.
 fn read_group(alloc: Global, value: &Value) -> Result<Step, DocumentFault>
     ensures { ReadsBy step_view result (only_if is_built (option_and_then group_parts (fields (codes "keys" ∷ codes "aggs" ∷ codes "chunks" ∷ []) (view value.now)))) }
 {
     let parts = three_fields(value, "keys", "aggs", "chunks");
     let (keys, aggs, chunks) = parts.ok_or(DocumentFault::BadDocument)?;
-    let keys = read_keys(alloc, keys)?;
-    let aggs = read_aggs(alloc, aggs)?;
+    let keys = read_exprs(alloc, keys)?;
+    let aggs = read_exprs(alloc, aggs)?;
     if !chunks.is_null() {
         return Err(DocumentFault::BadDocument);
     }

@@ -1,21 +1,46 @@
-use Rattle.std.proofs.Common.{◌≡◌, ◌++◌, [], ◌∷◌, None, Some, ap, arith, refl, map}
-use Rattle.std.proofs.lemmas.List.{length-map}
+use Rattle.std.proofs.Common.{None, map}
+use Rattle.std.proofs.lemmas.Result.{err_from_is_err_and}
+use Rattle.px_frame.specs.External.{alone}
 use Rattle.px_plan.specs.View.{tree}
-use Rattle.px_column.specs.Option.{each}
-use Rattle.px_steps.specs.Direct.{key_on}
-use Rattle.px_steps.proofs.Columns.{step_meets, one_item}
+use Rattle.px_steps.specs.Step.{group}
+use Rattle.px_steps.proofs.GroupStep.{group_answer, key_cause, keys_fit, names_once, refusals_apart, some_column}
+use Rattle.px_steps.proofs.Selected.{refusal_cause}
 use Rattle.px_steps.proofs.group_step.group_step.Goals as goal
 
-pub returns-in_ok-column-in-len1-clause-answer : goal.returns-in_ok-column-in-len1-clause-answer
-returns-in_ok-column-in-len1-clause-answer g c =
-    let F = c.args.frame.now in
-    let k = c.key-item.result in
-    let column = c.in_ok-column-in-len1.column.now in
-    let one : c.args.keys.now ≡ k ∷ [] = one_item c.args.keys.now k (omega arith) c.key-item.is in
-    let plain : each (key_on F) (tree k ∷ []) ≡ Some (column ∷ []) = rw c.in_ok-column-in-len1.ensures.answer.1 refl in
-    rw one (step_meets F (column ∷ []) (tree k ∷ []) (map tree c.args.aggs.now) None _ (omega arith) (ap (λ es. es ++ []) c.in_ok-column-in-len1.ensures.answer.0) plain (rw c.from_ref.ensures.value at c.grouped_frame.ensures.answer))
+pub returns-in_err-schema-clause-answer : goal.returns-in_err-schema-clause-answer
+returns-in_err-schema-clause-answer g c =
+    let p = err_from_is_err_and c.from_residual.result c.from_residual.ensures.1 in
+    rw (p.1, p.2) (refusal_cause c.in_err-schema.field-0.0 (group (map tree c.args.keys.now) (map tree c.args.aggs.now) None) (alone c.args.frame.now) c.in_err-schema.ensures)
 
-pub returns-in_ok-by-in_default-clause-answer : goal.returns-in_ok-by-in_default-clause-answer
-returns-in_ok-by-in_default-clause-answer g c =
-    step_meets c.args.frame.now c.in_ok-by-in_default.by.items (map tree c.args.keys.now) (map tree c.args.aggs.now) None _ (omega (arith, length-map c.args.keys.now tree))
-    c.in_ok-by-in_default.ensures.answer.0 c.in_ok-by-in_default.ensures.answer.1 (rw c.deref.ensures.value at c.grouped_frame-in_default.ensures.answer)
+pub key_columns-requires-clause-accepted : goal.key_columns-requires-clause-accepted
+key_columns-requires-clause-accepted g c =
+    (refusals_apart (alone c.args.frame.now) (map tree c.args.keys.now) (map tree c.args.aggs.now) c.in_ok-schema.ensures.0).1
+
+pub returns-in_err-by-clause-answer : goal.returns-in_err-by-clause-answer
+returns-in_err-by-clause-answer g c =
+    let p = err_from_is_err_and c.from_residual-in_err-by.result c.from_residual-in_err-by.ensures.1 in
+    rw (p.1, p.2) (key_cause c.args.frame.now (map tree c.args.keys.now) (map tree c.args.aggs.now) c.in_ok-schema.ensures.0 c.in_err-by.field-0.0 c.in_err-by.ensures.answer)
+
+pub grouped_frame-requires-clause-some : goal.grouped_frame-requires-clause-some
+grouped_frame-requires-clause-some g c =
+    let apart = refusals_apart (alone c.args.frame.now) (map tree c.args.keys.now) (map tree c.args.aggs.now) c.in_ok-schema.ensures.0 in
+    rw c.deref.ensures.value (some_column (alone c.args.frame.now) (map tree c.args.keys.now) c.in_ok-by.by.items apart.0 c.in_ok-by.ensures.answer.1)
+
+pub grouped_frame-requires-clause-keys : goal.grouped_frame-requires-clause-keys
+grouped_frame-requires-clause-keys g c =
+    let apart = refusals_apart (alone c.args.frame.now) (map tree c.args.keys.now) (map tree c.args.aggs.now) c.in_ok-schema.ensures.0 in
+    rw c.deref.ensures.value (keys_fit c.args.frame.now (map tree c.args.keys.now) c.in_ok-by.by.items apart.1 c.in_ok-by.ensures.answer.1)
+
+pub grouped_frame-requires-clause-names : goal.grouped_frame-requires-clause-names
+grouped_frame-requires-clause-names g c =
+    let apart = refusals_apart (alone c.args.frame.now) (map tree c.args.keys.now) (map tree c.args.aggs.now) c.in_ok-schema.ensures.0 in
+    rw c.deref.ensures.value (names_once (alone c.args.frame.now) (map tree c.args.keys.now) (map tree c.args.aggs.now) c.in_ok-by.by.items apart.3 c.in_ok-by.ensures.answer.1)
+
+pub grouped_frame-requires-clause-accepted : goal.grouped_frame-requires-clause-accepted
+grouped_frame-requires-clause-accepted g c =
+    (refusals_apart (alone c.args.frame.now) (map tree c.args.keys.now) (map tree c.args.aggs.now) c.in_ok-schema.ensures.0).2
+
+pub returns-clause-answer : goal.returns-clause-answer
+returns-clause-answer g c =
+    group_answer c.args.frame.now (map tree c.args.keys.now) (map tree c.args.aggs.now) c.in_ok-schema.ensures.0 c.in_ok-by.by.items c.in_ok-by.ensures.answer.1 c.grouped_frame.result c.in_ok-by.ensures.answer.0
+    (rw c.deref.ensures.value at c.grouped_frame.ensures.answer)

@@ -1,10 +1,20 @@
-use Rattle.std.proofs.Common.{◌≡◌, map, Some}
+use Rattle.std.proofs.Common.{◌≡◌, ◌∙◌, List, ℕ, Ok, Result, Some, ap, map, subst, sym}
+use Rattle.std.specs.List.{flat_map}
+use Rattle.std.proofs.lemmas.Result.{err_from_is_err_and}
+use Rattle.px_column.specs.Answer.{Answers}
+use Rattle.px_column.specs.Series.{Series}
+use Rattle.px_column.specs.declared.error.PxError.{PxError}
 use Rattle.px_frame.specs.Aggregate.{key_column}
+use Rattle.px_frame.specs.External.{alone}
 use Rattle.px_frame.specs.Frame.{height_of}
 use Rattle.px_frame.specs.Groups.{groups_by}
+use Rattle.px_plan.specs.Size.{size_on}
 use Rattle.px_plan.specs.View.{tree}
-use Rattle.px_steps.specs.Direct.{columns_on}
-use Rattle.px_steps.proofs.Columns.{frame_meets, columns_made, keys_high}
+use Rattle.px_steps.specs.Finds.{Lacks, part_faults, part_frames}
+use Rattle.px_steps.specs.Plain.{columns_on, greatest}
+use Rattle.px_steps.proofs.Columns.{keys_high}
+use Rattle.px_steps.proofs.GroupStep.{columns_found, frame_made, no_groups, parts_found}
+use Rattle.px_steps.proofs.Grouping.{finds_same}
 use Rattle.px_steps.proofs.group_step.grouped_frame.Goals as goal
 
 pub key_rows-requires-clause-height : goal.key_rows-requires-clause-height
@@ -12,12 +22,30 @@ key_rows-requires-clause-height g c =
     let groups : c.in_ok-groups.groups ≡ groups_by c.args.by.now (height_of c.args.frame.now) = cc (c.in_ok-groups.ensures.groups) in
     rw groups (keys_high c.args.frame.now c.args.by.now c.requires.keys)
 
+pub push_aggregations-requires-clause-columns : goal.push_aggregations-requires-clause-columns
+push_aggregations-requires-clause-columns g c =
+    let groups : c.in_ok-groups.groups ≡ groups_by c.args.by.now (height_of c.args.frame.now) = cc (c.in_ok-groups.ensures.groups) in
+    no_groups c.args.frame.now c.args.by.now c.in_ok-groups.groups groups
+
+pub returns-in_err-push_aggregations-clause-answer : goal.returns-in_err-push_aggregations-clause-answer
+returns-in_err-push_aggregations-clause-answer g c =
+    let p = err_from_is_err_and c.from_residual-in_err-push_aggregations.result c.from_residual-in_err-push_aggregations.ensures.1 in
+    let F = alone c.args.frame.now in
+    let ts = map tree c.args.aggs.now in
+    let e = c.in_err-push_aggregations.field-0.0 in
+    let groups : c.in_ok-groups.groups ≡ groups_by c.args.by.now (height_of c.args.frame.now) = cc (c.in_ok-groups.ensures.groups) in
+    rw (p.1, p.2)
+    (subst (λ (ps : List (List ℕ)). Lacks e (flat_map (part_faults F ps) ts) (greatest (map (λ t. size_on t (part_frames F ps)) ts))) (parts_found c.args.frame.now c.args.by.now c.in_ok-groups.groups groups) c.in_err-push_aggregations.ensures.answer)
+
 pub returns-clause-answer : goal.returns-clause-answer
 returns-clause-answer g c =
-    let F = c.args.frame.now in
+    let cs = c.args.frame.now in
+    let F = alone cs in
     let by = c.args.by.now in
     let ts = map tree c.args.aggs.now in
-    let groups : c.in_ok-groups.groups ≡ groups_by by (height_of F) = cc (c.in_ok-groups.ensures.groups) in
+    let new = c.push_aggregations.new.columns.items in
+    let groups : c.in_ok-groups.groups ≡ groups_by by (height_of cs) = cc (c.in_ok-groups.ensures.groups) in
     let keys : c.in_ok-columns.columns.items ≡ map (key_column c.in_ok-groups.groups.groups) by = cc (c.in_ok-columns.ensures) in
-    let made : columns_on F by ts ≡ Some c.push_aggregations.new.columns.items = columns_made F by ts c.in_ok-groups.groups _ _ groups keys c.in_ok-push_aggregations.ensures.1 in
-    rw c.in_ok-push_aggregations.ensures.0 (frame_meets F by ts c.push_aggregations.new.columns.items c.new.result made c.new.ensures)
+    let made : columns_on F ts by ≡ Some new = columns_found F ts by c.in_ok-groups.groups _ new groups keys c.in_ok-push_aggregations.ensures.answer.1 in
+    let sound = sym (ap (λ (ps : List (List ℕ)). flat_map (part_faults F ps) ts) (parts_found cs by c.in_ok-groups.groups groups)) ∙ c.in_ok-push_aggregations.ensures.answer.0 in
+    finds_same c.new.result new (columns_on F ts by) _ _ (subst (λ (r : Result (List Series) PxError). Answers c.new.result r) (frame_made F ts by new made c.requires.names) c.new.ensures) made sound

@@ -1,20 +1,41 @@
-use Rattle.std.proofs.Common.{◌≡◌, ◌++◌, ◌∷◌, [], ◌∙◌, ap}
-use Rattle.px_column.specs.Series.{Series}
-use Rattle.px_steps.proofs.KeyLoop.{built_next, refused_next, made_next, fit_next, length_next}
+use Rattle.std.proofs.Common.{◌∙◌, ◌∷◌, [], map}
+use Rattle.std.proofs.lemmas.Result.{err_from_is_err_and}
+use Rattle.px_expr.specs.Built.{is_built_tree}
+use Rattle.px_frame.specs.External.{alone}
+use Rattle.px_plan.specs.Size.{size_on}
+use Rattle.px_plan.specs.View.{tree}
+use Rattle.px_steps.specs.Finds.{key_faults}
+use Rattle.px_steps.specs.Plain.{key_on, key_refusals}
+use Rattle.px_steps.proofs.Members.{in_all, in_here, in_none, lacks_in, sound_next, values_next}
 use Rattle.px_steps.proofs.group_step.key_columns.Goals as goal
 
+pub key_column-requires-clause-built : goal.key_column-requires-clause-built
+key_column-requires-clause-built g c =
+    in_all is_built_tree (map tree c.args.keys.now) (tree c.key-item.result) (in_here tree c.args.keys.now c.loop-key.key-index c.key-item.result c.loop-key-test.true c.key-item.is) c.requires.built
+
+pub key_column-requires-clause-accepted : goal.key_column-requires-clause-accepted
+key_column-requires-clause-accepted g c =
+    in_none (key_refusals (alone c.args.frame.now)) (map tree c.args.keys.now) (tree c.key-item.result) (in_here tree c.args.keys.now c.loop-key.key-index c.key-item.result c.loop-key-test.true c.key-item.is) c.requires.accepted
+
+pub returns-in_err-key_column-clause-answer : goal.returns-in_err-key_column-clause-answer
+returns-in_err-key_column-clause-answer g c =
+    let p = err_from_is_err_and c.from_residual-in_err-key_column.result c.from_residual-in_err-key_column.ensures.1 in
+    let F = alone c.args.frame.now in
+    rw (p.1, p.2)
+    (lacks_in c.in_err-key_column.field-0.0 (key_faults F) (λ t. size_on t (F ∷ [])) (map tree c.args.keys.now) (tree c.key-item.result)
+    (in_here tree c.args.keys.now c.loop-key.key-index c.key-item.result c.loop-key-test.true c.key-item.is) c.in_err-key_column.ensures.answer)
+
 pub loop-key-preserved : goal.loop-key-preserved
-loop-key-preserved c =
-    let F = c.args.frame.now in
+loop-key-preserved g c =
     let inv = c.loop-key.invariant in
-    let s = c.in_ok-key_column.field-0.now in
-    let copy : c.in_ok-try_clone.field-0 ≡ s = cc (c.in_ok-try_clone.ensures) in
-    let new : c.push.new.self.items ≡ c.loop-key.columns.items ++ s ∷ [] = c.in_ok-push.ensures.items ∙ ap (λ (x : Series). c.loop-key.columns.items ++ x ∷ []) copy in
+    let F = alone c.args.frame.now in
+    let keys = c.args.keys.now in
+    let i = c.loop-key.key-index in
+    let k = c.key-item.result in
+    let found = c.in_ok-key_column.ensures.answer in
     record {
-      built = built_next F c.args.keys.now c.loop-key.key-index c.key-item.result c.loop-key.columns.items c.push.new.self.items s c.loop-key-test.true c.key-item.is inv.built;
-      refused = refused_next F c.args.keys.now c.loop-key.key-index c.key-item.result c.loop-key.columns.items c.push.new.self.items s c.loop-key-test.true c.key-item.is _ inv.refused c.in_ok-key_column.ensures.answer.0;
-      made = made_next F c.args.keys.now c.loop-key.key-index c.key-item.result c.loop-key.columns.items c.push.new.self.items s c.loop-key-test.true c.key-item.is _ inv.made c.in_ok-key_column.ensures.answer.1 new;
-      fit = fit_next F _ _ s inv.fit c.in_ok-key_column.ensures.key new;
-      counted = length_next _ _ s c.loop-key.key-index inv.counted new;
-      there = λ h. c.in_ok-key_column.ensures.columns;
+      values = values_next tree keys i k c.loop-key-test.true c.key-item.is (key_on F) c.loop-key.columns.items c.push.new.self.items c.in_ok-key_column.field-0 _ inv.values found.1 c.in_ok-push.ensures.items;
+      sound = sound_next tree keys i k c.loop-key-test.true c.key-item.is (key_faults F) _ inv.sound found.0;
+      state = c.in_ok-key_column.ensures.state ∙ inv.state;
+      grouped = c.in_ok-key_column.ensures.grouped ∙ inv.grouped;
     }

@@ -1,0 +1,448 @@
+-- A group step's keys and columns: what they are, and what the step answers.
+use Rattle.std.proofs.Common.{◌≡◌, ◌⊎◌, inl, inr, ℕ, zero, suc, ◌+◌, ◌<◌, ◌≤◌, ◌^◌, ◌==◌, Bool, true, false, not, ◌&&◌, cond, List, [], ◌∷◌, ◌++◌, Option, Some, None, Result, Ok, Err, length, option_map, option_and_then, map, max, refl, sym, ◌∙◌, ap, subst, arith, append_assoc, replicate, if◌then◌else◌}
+use Rattle.std.specs.List.{flat_map, list_all, list_any}
+use Rattle.std.specs.Option.{option_map_or}
+use Rattle.std.specs.Result.{result_ok}
+use Rattle.std.proofs.lemmas.Bool.Decides.{nat_tests}
+use Rattle.std.proofs.lemmas.List.{length-map}
+use Rattle.px_column.specs.Answer.{Answers, AnswersBy, Refuses}
+use Rattle.px_column.specs.Datum.{Slot}
+use Rattle.px_column.specs.Kind.{Kind, is_list_kind}
+use Rattle.px_column.specs.Option.{each}
+use Rattle.px_column.specs.Series.{Series}
+use Rattle.px_column.specs.declared.error.PxError.{PxError}
+use Rattle.px_column.specs.declared.error.PxError.TheVariants.{Duplicate, InvalidOperation, ComputeError, ShapeMismatch, OutOfMemory}
+use Rattle.px_column.specs.declared.error.InvalidWhy.TheVariants.{ListKey}
+use Rattle.px_column.specs.declared.error.ComputeWhy.TheVariants.{NoKey, TooLong}
+use Rattle.px_expr.specs.Built.{is_built_tree}
+use Rattle.px_expr.specs.Plan.{planned_over}
+use Rattle.px_expr.specs.Planned.{Planned}
+use Rattle.px_expr.specs.Value.{IsCause, IsOneOf}
+use Rattle.px_frame.specs.Aggregate.{key_column}
+use Rattle.px_frame.specs.Cell.{Cell, unit, rows}
+use Rattle.px_frame.specs.External.{Frame, alone, height, rows_of_frame, scope_of}
+use Rattle.px_frame.specs.Frame.{all_have_height, first_repeat, frame_of, has_height, height_of, is_even, names_of, name_eq, unless_repeated}
+use Rattle.px_frame.specs.Groups.{Group, Groups, groups_by, is_list, rows_of}
+use Rattle.px_frame.specs.Parts.{parts_of}
+use Rattle.px_frame.specs.Schema.{column_field}
+use Rattle.px_frame.specs.Spread.{NamedCell, spread, spread_column, with_slots}
+use Rattle.px_plan.specs.Shape.{is_unit, name_of}
+use Rattle.px_plan.specs.Size.{size_on}
+use Rattle.px_plan.specs.Tree.{Tree}
+use Rattle.px_plan.specs.View.{tree}
+use Rattle.px_plan.specs.declared.expr.Expr.{Expr}
+use Rattle.px_plan.specs.Typing.{Scope, fails, first_or_kind, kind_in, not_list, refusals_of, refused_where, type_of}
+use Rattle.px_plan.specs.Value.{faults_on, value_on}
+use Rattle.px_plan.specs.declared.context.Context.{Context}
+use Rattle.px_plan.specs.declared.context.Context.TheVariants.{Aggregation, Default}
+use Rattle.px_steps.specs.Built.{is_key}
+use Rattle.px_steps.specs.Causes.{IsSound, IsStepCause, StepAnswers}
+use Rattle.px_steps.specs.Finds.{Finds, IsAccepted, Lacks, key_faults, part_faults, part_frames, repeat_beside, typed_key_refusals}
+use Rattle.px_steps.specs.Form.{with_front}
+use Rattle.px_steps.specs.Meets.{IsFirst, Meets}
+use Rattle.px_steps.specs.Plain.{agg_refusals, aggregated_on, columns_on, first_of, frames_by, greatest, grouped_kind, height_fault, height_made, key_on, key_refusals, key_values, misfit_faults, named_value, no_key_refusal, refused_by, repeat_refusal, step_faults, step_on, step_refusals, step_size, value_on_part, group_frames}
+use Rattle.px_steps.specs.Step.{group}
+use Rattle.px_steps.proofs.Columns.{all_append, all_true, and_then_some, both, even_from, has_length, heights_of_keys, keys_of_groups, made_each, map_append, names_of_keys, rows_of_groups}
+use Rattle.px_steps.proofs.Grouping.{accepted_lacks, no_refusal, value_there}
+use Rattle.px_steps.proofs.Selected.{There, kind_there, name_kept, nil_left, nil_right, no_misfits, once_none, one_left, one_right, refuses_or}
+use Rattle.px_steps.proofs.Named.{IsFirst_append, refuses_first, refuses_none}
+
+append_nil : {A : Type 0} (xs : List A) → xs ++ [] ≡ xs
+append_nil [] = refl
+append_nil (x ∷ xs) = ap (λ ys. x ∷ ys) (append_nil xs)
+
+-- a name of some more that stands twice
+pub repeat_more : (seen first more : List (List ℕ)) → first_repeat seen first ≡ None → first_repeat seen (first ++ more) ≡ first_repeat (seen ++ first) more
+repeat_more seen [] more h = ap (λ ns. first_repeat ns more) (sym (append_nil seen))
+repeat_more seen (n ∷ ns) more h = by (list_any (name_eq n) seen) (repeat_more (seen ++ n ∷ []) ns more) h
+  where
+    by : (b : Bool) → (first_repeat (seen ++ n ∷ []) ns ≡ None → first_repeat (seen ++ n ∷ []) (ns ++ more) ≡ first_repeat ((seen ++ n ∷ []) ++ ns) more)
+        → (if b then Some n else first_repeat (seen ++ n ∷ []) ns) ≡ None
+        → (if b then Some n else first_repeat (seen ++ n ∷ []) (ns ++ more)) ≡ first_repeat (seen ++ n ∷ ns) more
+    by true rest h = cc
+    by false rest h = rest h ∙ ap (λ ms. first_repeat ms more) (append_assoc seen (n ∷ []) ns)
+
+pub repeat_stays : (seen first more : List (List ℕ)) (n : List ℕ) → first_repeat seen first ≡ Some n → first_repeat seen (first ++ more) ≡ Some n
+repeat_stays seen [] more n h = cc
+repeat_stays seen (m ∷ ms) more n h = by (list_any (name_eq m) seen) (repeat_stays (seen ++ m ∷ []) ms more n) h
+  where
+    by : (b : Bool) → (first_repeat (seen ++ m ∷ []) ms ≡ Some n → first_repeat (seen ++ m ∷ []) (ms ++ more) ≡ Some n)
+        → (if b then Some m else first_repeat (seen ++ m ∷ []) ms) ≡ Some n → (if b then Some m else first_repeat (seen ++ m ∷ []) (ms ++ more)) ≡ Some n
+    by true rest h = h
+    by false rest h = rest h
+
+-- the names that stand twice among keys and then aggregations
+pub repeat_both : (keys aggs : List Tree) → repeat_beside [] keys ≡ [] → repeat_refusal (keys ++ aggs) ≡ repeat_beside (map name_of keys) aggs
+repeat_both keys aggs h =
+    ap (λ ns. option_map_or (λ n. Duplicate n ∷ []) (first_repeat [] ns) []) (map_append name_of keys aggs)
+    ∙ ap (λ o. option_map_or (λ n. Duplicate n ∷ []) o []) (repeat_more [] (map name_of keys) (map name_of aggs) (once_none (first_repeat [] (map name_of keys)) h))
+
+-- a name that stands twice among the keys stands so among all
+pub repeat_keys : (e : PxError) (keys aggs : List Tree) → IsFirst e (repeat_beside [] keys) → IsFirst e (repeat_refusal (keys ++ aggs))
+repeat_keys e keys aggs h = by (first_repeat [] (map name_of keys)) refl h
+  where
+    by : (o : Option (List ℕ)) → first_repeat [] (map name_of keys) ≡ o → IsFirst e (option_map_or (λ n. Duplicate n ∷ []) o []) → IsFirst e (repeat_refusal (keys ++ aggs))
+    by None q f = nothing e f
+      where
+        nothing : (e : PxError) → IsFirst e [] → IsFirst e (repeat_refusal (keys ++ aggs))
+        nothing OutOfMemory f = tt
+        nothing _ f = cc
+    by (Some n) q f =
+        let same : first_repeat [] (map name_of (keys ++ aggs)) ≡ Some n = ap (first_repeat []) (map_append name_of keys aggs) ∙ repeat_stays [] (map name_of keys) (map name_of aggs) n q in
+        subst (λ (o : Option (List ℕ)). IsFirst e (option_map_or (λ m. Duplicate m ∷ []) o [])) (sym same) f
+
+-- the length of what is made of each
+each_length : {A B : Type 0} (f : A → Option B) (xs : List A) (ys : List B) → each f xs ≡ Some ys → length ys ≡ length xs
+each_length f [] ys h = let none : ys ≡ [] = cc in ap length none
+each_length {A} {B} f (x ∷ xs) ys h = by (f x) (each f xs) (each_length f xs) h
+  where
+    by : (o : Option B) (rest : Option (List B)) → ((zs : List B) → rest ≡ Some zs → length zs ≡ length xs) → option_and_then (λ y. option_map (λ zs. y ∷ zs) rest) o ≡ Some ys → length ys ≡ length (x ∷ xs)
+    by None rest more h = cc
+    by (Some y) None more h = cc
+    by (Some y) (Some zs) more h = let same : y ∷ zs ≡ ys = cc in ap length (sym same) ∙ ap (λ n. suc n) (more zs refl)
+
+replicated : (n : ℕ) (s : Slot) → length (replicate n s) ≡ n
+replicated zero s = refl
+replicated (suc n) s = ap (λ m. suc m) (replicated n s)
+
+-- a cell brought to a height keeps its name and type, and has that height
+spread_made : (n : ℕ) (c : NamedCell) (s : Series) → result_ok (spread_column n c) ≡ Some s → (s.name ≡ c.name) × (s.kind ≡ c.kind) × (length s.slots ≡ n)
+spread_made n c s h = by c.cell h
+  where
+    same : (xs : List Slot) → length xs ≡ n → Some (record { name = c.name; kind = c.kind; slots = xs }) ≡ Some s → (s.name ≡ c.name) × (s.kind ≡ c.kind) × (length s.slots ≡ n)
+    same xs l e = let is : record { name = c.name; kind = c.kind; slots = xs } ≡ s = cc in (ap (λ (x : Series). x.name) (sym is), ap (λ (x : Series). x.kind) (sym is), ap (λ (x : Series). length x.slots) (sym is) ∙ l)
+
+    listed : (xs : List Slot) (b : Bool) → (length xs == n) ≡ b → result_ok (with_slots c (if b then Ok xs else Err ShapeMismatch)) ≡ Some s → (s.name ≡ c.name) × (s.kind ≡ c.kind) × (length s.slots ≡ n)
+    listed xs true q e = same xs (grind (arith, nat_tests)) e
+    listed xs false q e = cc
+
+    by : (v : Cell) → result_ok (with_slots c (spread n v)) ≡ Some s → (s.name ≡ c.name) × (s.kind ≡ c.kind) × (length s.slots ≡ n)
+    by (unit x) e = same (replicate n x) (replicated n x) e
+    by (rows xs) e = listed xs (length xs == n) refl e
+
+-- a key's column has the key's name
+key_name : (frame : Frame) (t : Tree) (s : Series) → key_on frame t ≡ Some s → s.name ≡ name_of t
+key_name frame t s h =
+    let first = and_then_some (named_value frame t) (λ c. result_ok (spread_column (height frame) c)) s h in
+    (spread_made (height frame) first.0 s first.2).0 ∙ name_kept frame t first.0 first.1
+
+pub key_names : (frame : Frame) (ts : List Tree) (by : List Series) → each (key_on frame) ts ≡ Some by → names_of by ≡ map name_of ts
+key_names frame ts by h = made_each (key_on frame) (λ s. s.name) name_of ts by (key_name frame) h
+
+no_list_refusal : (k : Kind) (o : Option Kind) (e : PxError) → o ≡ Some k → refused_where (fails not_list o) e ≡ [] → is_list_kind k ≡ false
+no_list_refusal k None e q h = cc
+no_list_refusal k (Some j) e q h = let same : j ≡ k = cc in ap is_list_kind (sym same) ∙ by (is_list_kind j) h
+  where
+    by : (b : Bool) → refused_where (not (not b)) e ≡ [] → b ≡ false
+    by true h = cc
+    by false h = refl
+
+-- a key that is not refused groups the frame
+key_fits : (cs : List Series) (t : Tree) (s : Series) → key_refusals (alone cs) t ≡ [] → key_on (alone cs) t ≡ Some s → is_key cs s ≡ true
+key_fits cs t s n h =
+    let first = and_then_some (named_value (alone cs) t) (λ c. result_ok (spread_column (height_of cs) c)) s h in
+    let made = spread_made (height_of cs) first.0 s first.2 in
+    let there = value_there (alone cs) t first.0 first.1 in
+    let plain : is_list_kind s.kind ≡ false
+    = ap is_list_kind made.1 ∙ no_list_refusal first.0.kind (kind_in t (scope_of (alone cs))) (InvalidOperation ListKey) there.1 (nil_right (refusals_of t (scope_of (alone cs)) Default) _ n) in
+    λ i. not (plain i) && has_length (height_of cs) s made.2 i
+
+pub keys_fit : (cs : List Series) (ts : List Tree) (by : List Series) → flat_map (key_refusals (alone cs)) ts ≡ [] → each (key_on (alone cs)) ts ≡ Some by → list_all (is_key cs) by ≡ true
+keys_fit cs [] by n h = let none : by ≡ [] = cc in ap (list_all (is_key cs)) none
+keys_fit cs (t ∷ ts) by n h =
+    let rest = nil_right (key_refusals (alone cs) t) (flat_map (key_refusals (alone cs)) ts) n in
+    made (key_on (alone cs) t) refl (each (key_on (alone cs)) ts) (λ ss. keys_fit cs ts ss rest) h
+  where
+    made : (o : Option Series) → key_on (alone cs) t ≡ o → (rest : Option (List Series)) → ((ss : List Series) → rest ≡ Some ss → list_all (is_key cs) ss ≡ true) → option_and_then (λ y. option_map (λ zs. y ∷ zs) rest) o ≡ Some by → list_all (is_key cs) by ≡ true
+    made None p rest fit e = cc
+    made (Some s) p None fit e = cc
+    made (Some s) p (Some ss) fit e =
+        let same : s ∷ ss ≡ by = cc in
+        ap (list_all (is_key cs)) (sym same) ∙ (λ i. key_fits cs t s (nil_left (key_refusals (alone cs) t) (flat_map (key_refusals (alone cs)) ts) n) p i && fit ss refl i)
+
+-- an aggregation's column has its name, and a row for each part
+aggregated_seen : (frame : Frame) (ps : List (List ℕ)) (t : Tree) (c : Series) → aggregated_on frame ps t ≡ Some c → (c.name ≡ name_of t) × (length c.slots ≡ length ps)
+aggregated_seen frame ps t c h = by (kind_in t (scope_of frame)) (each (value_on_part frame t) ps) refl h
+  where
+    by : (k : Option Kind) (vs : Option (List Slot)) → each (value_on_part frame t) ps ≡ vs → option_and_then (λ k. option_and_then (λ xs. Some (record { name = name_of t; kind = grouped_kind t k; slots = xs })) vs) k ≡ Some c
+        → (c.name ≡ name_of t) × (length c.slots ≡ length ps)
+    by None vs q e = cc
+    by (Some k) None q e = cc
+    by (Some k) (Some xs) q e =
+        let same : record { name = name_of t; kind = grouped_kind t k; slots = xs } ≡ c = cc in
+        (ap (λ (x : Series). x.name) (sym same), ap (λ (x : Series). length x.slots) (sym same) ∙ each_length (value_on_part frame t) ps xs q)
+
+columns_apart : (frame : Frame) (ts : List Tree) (by columns : List Series) → columns_on frame ts by ≡ Some columns
+    → (made : List Series) × (each (aggregated_on frame (parts_of by (height frame))) ts ≡ Some made) × (map (key_values (parts_of by (height frame))) by ++ made ≡ columns)
+columns_apart frame ts by columns h =
+    let first = and_then_some (each (aggregated_on frame (parts_of by (height frame))) ts) (λ made. Some (map (key_values (parts_of by (height frame))) by ++ made)) columns h in
+    let last = first.2 in
+    let same : map (key_values (parts_of by (height frame))) by ++ first.0 ≡ columns = cc in
+    (first.0, first.1, same)
+
+names_made : (frame : Frame) (ts : List Tree) (by columns : List Series) → columns_on frame ts by ≡ Some columns → names_of columns ≡ names_of by ++ map name_of ts
+names_made frame ts by columns h =
+    let ps = parts_of by (height frame) in
+    let made = columns_apart frame ts by columns h in
+    ap names_of (sym made.2) ∙ map_append (λ s. s.name) (map (key_values ps) by) made.0
+    ∙ (λ i. names_of_keys ps by i ++ made_each (aggregated_on frame ps) (λ s. s.name) name_of ts made.0 (λ t c e. (aggregated_seen frame ps t c e).0) made.1 i)
+
+even_made : (frame : Frame) (ts : List Tree) (by columns : List Series) → columns_on frame ts by ≡ Some columns → is_even columns ≡ true
+even_made frame ts by columns h =
+    let ps = parts_of by (height frame) in
+    let made = columns_apart frame ts by columns h in
+    let values = all_true (has_height (length ps)) ts made.0 (made_each (aggregated_on frame ps) (has_height (length ps)) (λ _. true) ts made.0 (λ t c e. has_length (length ps) c (aggregated_seen frame ps t c e).1) made.1) in
+    even_from (length ps) columns (ap (all_have_height (length ps)) (sym made.2) ∙ all_append (has_height (length ps)) (map (key_values ps) by) made.0 (heights_of_keys ps by) values)
+
+-- the columns whose names are distinct make a frame
+pub frame_made : (frame : Frame) (ts : List Tree) (by columns : List Series) → columns_on frame ts by ≡ Some columns → first_repeat [] (names_of by ++ map name_of ts) ≡ None → frame_of columns ≡ Ok columns
+frame_made frame ts by columns h once =
+    ap (λ t. unless_repeated t (if is_even columns then Ok columns else Err ShapeMismatch)) (ap (first_repeat []) (names_made frame ts by columns h) ∙ once)
+    ∙ ap (λ (t : Bool). if t then Ok columns else Err ShapeMismatch) (even_made frame ts by columns h)
+
+front_made : (front : List Series) (o : Option (List Series)) (new : List Series) → with_front front o ≡ Some new → option_and_then (λ made. Some (front ++ made)) o ≡ Some new
+front_made front None new h = cc
+front_made front (Some made) new h = h
+
+-- what the kernels made for the groups is what the definition says of the parts
+pub columns_found : (frame : Frame) (ts : List Tree) (by : List Series) (g : Groups) (keys new : List Series) → g ≡ groups_by by (height frame) → keys ≡ map (key_column g.groups) by
+    → with_front keys (each (aggregated_on frame (rows_of g)) ts) ≡ Some new → columns_on frame ts by ≡ Some new
+columns_found frame ts by g keys new e k h =
+    let ps = parts_of by (height frame) in
+    let rows : rows_of g ≡ ps = ap rows_of e ∙ rows_of_groups ps in
+    let values : keys ≡ map (key_values ps) by = k ∙ ap (λ (x : Groups). map (key_column x.groups) by) e ∙ keys_of_groups ps by in
+    front_made (map (key_values ps) by) (each (aggregated_on frame ps) ts) new (sym (λ i. with_front (values i) (each (aggregated_on frame (rows i)) ts)) ∙ h)
+
+-- the frames of the parts
+flat_map-map : {A B C : Type 0} (f : B → List C) (v : A → B) (xs : List A) → flat_map f (map v xs) ≡ flat_map (λ x. f (v x)) xs
+flat_map-map f v [] = refl
+flat_map-map f v (x ∷ xs) = ap (λ ys. f (v x) ++ ys) (flat_map-map f v xs)
+
+flat_map-same : {A C : Type 0} (f g : A → List C) (xs : List A) → ((x : A) → f x ≡ g x) → flat_map f xs ≡ flat_map g xs
+flat_map-same f g [] h = refl
+flat_map-same f g (x ∷ xs) h = λ i. h x i ++ flat_map-same f g xs h i
+
+parts_same : (frame : Frame) (ps : List (List ℕ)) (ts : List Tree) → flat_map (λ e. flat_map (faults_on e) (map (rows_of_frame frame) ps)) ts ≡ flat_map (part_faults frame ps) ts
+parts_same frame ps ts = flat_map-same _ (part_faults frame ps) ts (λ e. flat_map-map (faults_on e) (rows_of_frame frame) ps)
+
+-- the faults of keys, each value's before each height's
+keys_sound : (frame : Frame) (ts : List Tree) → flat_map (key_faults frame) ts ≡ [] → (flat_map (λ e. faults_on e frame) ts ≡ []) × (flat_map (λ e. height_fault frame (value_on e frame)) ts ≡ [])
+keys_sound frame [] h = (refl, refl)
+keys_sound frame (t ∷ ts) h =
+    let own = nil_left (key_faults frame t) (flat_map (key_faults frame) ts) h in
+    let rest = keys_sound frame ts (nil_right (key_faults frame t) (flat_map (key_faults frame) ts) h) in
+    let values = nil_left (faults_on t frame) (height_fault frame (value_on t frame)) own in
+    let heights = nil_right (faults_on t frame) (height_fault frame (value_on t frame)) own in
+    (λ i. values i ++ rest.0 i, λ i. heights i ++ rest.1 i)
+
+one_apart : (e : PxError) (xs ys : List PxError) → IsOneOf e (xs ++ ys) → IsOneOf e xs ⊎ IsOneOf e ys
+one_apart e [] ys h = inr h
+one_apart e (x ∷ xs) ys (inl s) = inl (inl s)
+one_apart e (x ∷ xs) ys (inr h) = by (one_apart e xs ys h)
+  where
+    by : IsOneOf e xs ⊎ IsOneOf e ys → IsOneOf e (x ∷ xs) ⊎ IsOneOf e ys
+    by (inl o) = inl (inr o)
+    by (inr o) = inr o
+
+key_fault_apart : (e : PxError) (frame : Frame) (ts : List Tree) → IsOneOf e (flat_map (key_faults frame) ts)
+    → IsOneOf e (flat_map (λ t. faults_on t frame) ts) ⊎ IsOneOf e (flat_map (λ t. height_fault frame (value_on t frame)) ts)
+key_fault_apart e frame [] h = absurd h
+key_fault_apart e frame (t ∷ ts) h = by (one_apart e (key_faults frame t) (flat_map (key_faults frame) ts) h) (key_fault_apart e frame ts)
+  where
+    own : IsOneOf e (faults_on t frame) ⊎ IsOneOf e (height_fault frame (value_on t frame)) → IsOneOf e (flat_map (λ t. faults_on t frame) (t ∷ ts)) ⊎ IsOneOf e (flat_map (λ t. height_fault frame (value_on t frame)) (t ∷ ts))
+    own (inl o) = inl (one_left e (faults_on t frame) (flat_map (λ t. faults_on t frame) ts) o)
+    own (inr o) = inr (one_left e (height_fault frame (value_on t frame)) (flat_map (λ t. height_fault frame (value_on t frame)) ts) o)
+
+    rest : IsOneOf e (flat_map (λ t. faults_on t frame) ts) ⊎ IsOneOf e (flat_map (λ t. height_fault frame (value_on t frame)) ts) → IsOneOf e (flat_map (λ t. faults_on t frame) (t ∷ ts)) ⊎ IsOneOf e (flat_map (λ t. height_fault frame (value_on t frame)) (t ∷ ts))
+    rest (inl o) = inl (one_right e (faults_on t frame) (flat_map (λ t. faults_on t frame) ts) o)
+    rest (inr o) = inr (one_right e (height_fault frame (value_on t frame)) (flat_map (λ t. height_fault frame (value_on t frame)) ts) o)
+
+    by : IsOneOf e (key_faults frame t) ⊎ IsOneOf e (flat_map (key_faults frame) ts)
+        → (IsOneOf e (flat_map (key_faults frame) ts) → IsOneOf e (flat_map (λ t. faults_on t frame) ts) ⊎ IsOneOf e (flat_map (λ t. height_fault frame (value_on t frame)) ts))
+        → IsOneOf e (flat_map (λ t. faults_on t frame) (t ∷ ts)) ⊎ IsOneOf e (flat_map (λ t. height_fault frame (value_on t frame)) (t ∷ ts))
+    by (inl o) more = own (one_apart e (faults_on t frame) (height_fault frame (value_on t frame)) o)
+    by (inr o) more = rest (more o)
+
+-- a group step that is not refused
+module _ (cs : List Series) (keys aggs : List Tree) (none : step_refusals (group keys aggs None) (alone cs) ≡ []) where
+  accepted : first_of (step_refusals (group keys aggs None) (alone cs)) ≡ None
+  accepted = ap first_of none
+
+  fault_told : (e : PxError) → IsOneOf e (step_faults (group keys aggs None) (alone cs)) → (e ≡ OutOfMemory) ⊎ IsStepCause e (group keys aggs None) (alone cs)
+  fault_told e o = inr (inr (accepted, inl o))
+
+  abbrev key_values_faults : List PxError
+  key_values_faults = flat_map (λ t. faults_on t (alone cs)) keys
+
+  abbrev key_height_faults : List PxError
+  key_height_faults = flat_map (λ t. height_fault (alone cs) (value_on t (alone cs))) keys
+
+  abbrev part_value_faults : List PxError
+  part_value_faults = flat_map (λ t. flat_map (faults_on t) (frames_by (alone cs) keys)) aggs
+
+  -- why its keys have no columns
+  pub key_cause : (e : PxError) → Lacks e (flat_map (key_faults (alone cs)) keys) (greatest (map (λ t. size_on t (alone cs ∷ [])) keys)) → (e ≡ OutOfMemory) ⊎ IsStepCause e (group keys aggs None) (alone cs)
+  key_cause e (inl m) = inl m
+  key_cause e (inr (inr l)) = inr (inr (accepted, inr (l.0, omega (arith, l.1))))
+  key_cause e (inr (inl o)) = by (key_fault_apart e (alone cs) keys o)
+    where
+      by : IsOneOf e key_values_faults ⊎ IsOneOf e key_height_faults → (e ≡ OutOfMemory) ⊎ IsStepCause e (group keys aggs None) (alone cs)
+      by (inl v) = fault_told e (one_left e ((key_values_faults ++ key_height_faults) ++ part_value_faults) _ (one_left e (key_values_faults ++ key_height_faults) part_value_faults (one_left e key_values_faults key_height_faults v)))
+      by (inr h) = fault_told e (one_left e ((key_values_faults ++ key_height_faults) ++ part_value_faults) _ (one_left e (key_values_faults ++ key_height_faults) part_value_faults (one_right e key_values_faults key_height_faults h)))
+
+  -- what it answers, where its keys have columns
+  module _ (by : List Series) (made : each (key_on (alone cs)) keys ≡ Some by) where
+    frames : frames_by (alone cs) keys ≡ part_frames (alone cs) (parts_of by (height_of cs))
+    frames = ap (group_frames (alone cs)) made
+
+    agg_faults : flat_map (λ t. flat_map (faults_on t) (frames_by (alone cs) keys)) aggs ≡ flat_map (part_faults (alone cs) (parts_of by (height_of cs))) aggs
+    agg_faults = ap (λ (fs : List Frame). flat_map (λ t. flat_map (faults_on t) fs) aggs) frames ∙ parts_same (alone cs) (parts_of by (height_of cs)) aggs
+
+    pub group_answer : (r : Result (List Series) PxError) → flat_map (key_faults (alone cs)) keys ≡ []
+        → Finds r (columns_on (alone cs) aggs by) (flat_map (part_faults (alone cs) (parts_of by (height_of cs))) aggs) (greatest (map (λ t. size_on t (part_frames (alone cs) (parts_of by (height_of cs)))) aggs))
+        → StepAnswers r (group keys aggs None) cs
+    group_answer (Ok f) sound h =
+        let k = keys_sound (alone cs) keys sound in (
+          record { accepted = accepted; sound = λ i. ((k.0 i ++ k.1 i) ++ (agg_faults ∙ h.0) i) ++ no_misfits cs (keys ++ aggs) i },
+          ap (λ o. option_map (λ columns. record (alone cs) { columns = columns }) (option_and_then (columns_on (alone cs) aggs) o)) made
+              ∙ ap (λ o. option_map (λ columns. record (alone cs) { columns = columns }) o) h.1,
+        )
+    group_answer (Err e) sound (inl m) = inl m
+    group_answer (Err e) sound (inr (inl o)) =
+        fault_told e (one_left e ((key_values_faults ++ key_height_faults) ++ part_value_faults) _ (one_right e (key_values_faults ++ key_height_faults) part_value_faults (subst (IsOneOf e) (sym agg_faults) o)))
+    group_answer (Err e) sound (inr (inr l)) =
+        let size : greatest (map (λ t. size_on t (frames_by (alone cs) keys)) aggs) ≡ greatest (map (λ t. size_on t (part_frames (alone cs) (parts_of by (height_of cs)))) aggs) = ap (λ (fs : List Frame). greatest (map (λ t. size_on t fs) aggs)) frames in
+        inr (inr (accepted, inr (l.0, omega (arith, l.1, size))))
+
+-- the first refusal in place of a type
+pub type_refused : (e : PxError) (t : Tree) (scope : Scope) (place : Context) → is_built_tree t ≡ true → Refuses e (type_of t scope place) → IsFirst e (refusals_of t scope place)
+type_refused e t scope place b h = by (refusals_of t scope place) (kind_in t scope) (kind_there t scope place b) h
+  where
+    by : (R : List PxError) (K : Option Kind) → (R ≡ [] → There K) → Refuses e (first_or_kind R K) → IsFirst e R
+    by [] None there h = let k = there refl in cc
+    by [] (Some k) there h = refuses_none e k [] h
+    by (x ∷ xs) K there h = refuses_first Kind e x xs h
+
+pub key_refused : (e : PxError) (t : Tree) (scope : Scope) → is_built_tree t ≡ true → Refuses e (type_of t scope Default) → IsFirst e (typed_key_refusals scope t)
+key_refused e t scope b h = IsFirst_append e (refusals_of t scope Default) _ (type_refused e t scope Default b h)
+
+-- the refusals of a step's parts, where it has none
+pub refusals_apart : (frame : Frame) (keys aggs : List Tree) → step_refusals (group keys aggs None) frame ≡ []
+    → (no_key_refusal keys ≡ []) × (flat_map (key_refusals frame) keys ≡ []) × (flat_map (agg_refusals frame) aggs ≡ []) × (repeat_refusal (keys ++ aggs) ≡ [])
+refusals_apart frame keys aggs h =
+    let N = no_key_refusal keys in
+    let K = flat_map (key_refusals frame) keys in
+    let A = flat_map (agg_refusals frame) aggs in
+    let R = repeat_refusal (keys ++ aggs) in
+    let all = nil_left (((N ++ K) ++ A) ++ R) [] h in
+    let typed = nil_left ((N ++ K) ++ A) R all in
+    let keyed = nil_left (N ++ K) A typed in
+    (nil_left N K keyed, nil_right N K keyed, nil_right (N ++ K) A typed, nil_right ((N ++ K) ++ A) R all)
+
+some_key : (keys : List Tree) → no_key_refusal keys ≡ [] → 0 < length keys
+some_key [] h = cc
+some_key (k ∷ keys) h = omega arith
+
+pub some_column : (frame : Frame) (keys : List Tree) (by : List Series) → no_key_refusal keys ≡ [] → each (key_on frame) keys ≡ Some by → 0 < length by
+some_column frame keys by h made =
+    let there = some_key keys h in
+    let as_many : length by ≡ length keys = each_length (key_on frame) keys by made in
+    omega arith
+
+-- the names of the result
+pub names_once : (frame : Frame) (keys aggs : List Tree) (by : List Series) → repeat_refusal (keys ++ aggs) ≡ [] → each (key_on frame) keys ≡ Some by → first_repeat [] (names_of by ++ map name_of aggs) ≡ None
+names_once frame keys aggs by h made =
+    (λ i. first_repeat [] (key_names frame keys by made i ++ map name_of aggs)) ∙ ap (first_repeat []) (sym (map_append name_of keys aggs)) ∙ once_none (first_repeat [] (map name_of (keys ++ aggs))) h
+
+lacks_left : (e : PxError) (xs ys : List PxError) (n : ℕ) → Lacks e xs n → Lacks e (xs ++ ys) n
+lacks_left e xs ys n (inl m) = inl m
+lacks_left e xs ys n (inr (inl o)) = inr (inl (one_left e xs ys o))
+lacks_left e xs ys n (inr (inr l)) = inr (inr l)
+
+-- why a key has no value
+pub key_lacks : (e : PxError) (p : Planned) (t : Tree) (cs : List Series) → p ≡ planned_over (map column_field cs) t → is_built_tree t ≡ true → refusals_of t (map column_field cs) Default ≡ [] → IsCause e p (alone cs)
+    → Lacks e (key_faults (alone cs) t) (size_on t (alone cs ∷ []))
+key_lacks e p t cs h b n c =
+    let plan = planned_over (map column_field cs) t in
+    let is : IsAccepted plan cs = record { built = b; over = refl; accepted = n } in
+    lacks_left e (faults_on t (alone cs)) (height_fault (alone cs) (value_on t (alone cs))) _ (accepted_lacks e plan cs is (subst (λ (q : Planned). IsCause e q (alone cs)) h c))
+
+-- a key's value as a column, or its fault where it has not the frame's height
+pub key_finds : (cs : List Series) (t : Tree) (c : NamedCell) (r : Result Series PxError) (n : ℕ) → named_value (alone cs) t ≡ Some c → faults_on t (alone cs) ≡ [] → Answers r (spread_column (height_of cs) c)
+    → Finds r (key_on (alone cs) t) (key_faults (alone cs) t) n
+key_finds cs t c r n value sound a =
+    let F = alone cs in
+    let meant : key_on F t ≡ result_ok (with_slots c (spread (height_of cs) c.cell)) = ap (λ o. option_and_then (λ x. result_ok (spread_column (height_of cs) x)) o) value in
+    let faults : key_faults F t ≡ faults_on t F ++ refused_by (spread (height_of cs) c.cell) = ap (λ o. faults_on t F ++ height_fault F o) (value_there F t c value).0 in
+    subst (λ (o : Option Series). Finds r o (key_faults F t) n) (sym meant)
+    (subst (λ (es : List PxError). Finds r (result_ok (with_slots c (spread (height_of cs) c.cell))) es n) (sym faults) (by (spread (height_of cs) c.cell) r a))
+  where
+    refused : (e f : PxError) → (e ≡ OutOfMemory) ⊎ ◌≡◌ {A = Result Series PxError} (Err f) (Err e) → Lacks e (faults_on t (alone cs) ++ f ∷ []) n
+    refused e f (inl m) = inl m
+    refused e f (inr s) = let same : f ≡ e = cc in inr (inl (one_right e (faults_on t (alone cs)) (f ∷ []) (inl (sym same))))
+
+    by : (q : Result (List Slot) PxError) (r : Result Series PxError) → Answers r (with_slots c q) → Finds r (result_ok (with_slots c q)) (faults_on t (alone cs) ++ refused_by q) n
+    by (Ok xs) (Ok s) b = let same : record { name = c.name; kind = c.kind; slots = xs } ≡ s = cc in ((λ i. sound i ++ []), ap Some same)
+    by (Ok xs) (Err e) b = inl (no_refusal e (Ok (record { name = c.name; kind = c.kind; slots = xs })) _ refl b)
+    by (Err f) (Ok s) b = cc
+    by (Err f) (Err e) b = refused e f (refuses_or e (Err f) b)
+
+-- without columns there are no groups
+pub no_groups : (cs by : List Series) (g : Groups) → g ≡ groups_by by (height_of cs) → cs ≡ [] → g.groups ≡ []
+no_groups cs by g h e = ap (λ (x : Groups). x.groups) (h ∙ (λ i. groups_by by (height_of (e i))))
+
+pub parts_found : (cs by : List Series) (g : Groups) → g ≡ groups_by by (height_of cs) → rows_of g ≡ parts_of by (height_of cs)
+parts_found cs by g h = ap rows_of h ∙ rows_of_groups (parts_of by (height_of cs))
+
+no_length : (n : ℕ) → (n == 0) ≡ true → n ≡ 0
+no_length n h = grind (arith, nat_tests)
+
+-- the first refusal of a step: there is no key, or the keys', the aggregations' or the names' first one
+pub key_missing : (keys : List Expr) (aggs : List Tree) (frame : Frame) → (length keys == 0) ≡ true → first_of (step_refusals (group (map tree keys) aggs None) frame) ≡ Some (ComputeError NoKey)
+key_missing [] aggs frame h = refl
+key_missing (k ∷ keys) aggs frame h = absurd (omega (arith, no_length (length (k ∷ keys)) h))
+
+pub key_there : (keys : List Expr) → (length keys == 0) ≡ false → no_key_refusal (map tree keys) ≡ []
+key_there [] h = cc
+key_there (k ∷ keys) h = refl
+
+module _ (e : PxError) (keys aggs : List Tree) (cs : List Series) (scope : Scope) (is : scope ≡ map column_field cs) (some : no_key_refusal keys ≡ []) where
+  abbrev N : List PxError
+  N = no_key_refusal keys
+
+  abbrev K : List PxError
+  K = flat_map (key_refusals (alone cs)) keys
+
+  abbrev A : List PxError
+  A = flat_map (agg_refusals (alone cs)) aggs
+
+  abbrev R : List PxError
+  R = repeat_refusal (keys ++ aggs)
+
+  pub keys_first : IsFirst e (flat_map (typed_key_refusals scope) keys) → IsFirst e (step_refusals (group keys aggs None) (alone cs))
+  keys_first h =
+      let k : IsFirst e K = subst (λ (s : Scope). IsFirst e (flat_map (typed_key_refusals s) keys)) is h in
+      let nk : IsFirst e (N ++ K) = subst (λ (n : List PxError). IsFirst e (n ++ K)) (sym some) k in
+      IsFirst_append e (((N ++ K) ++ A) ++ R) [] (IsFirst_append e ((N ++ K) ++ A) R (IsFirst_append e (N ++ K) A nk))
+
+  module _ (keyed : flat_map (typed_key_refusals scope) keys ≡ []) where
+    no_keys : N ++ K ≡ []
+    no_keys = λ i. some i ++ (ap (λ (s : Scope). flat_map (typed_key_refusals s) keys) (sym is) ∙ keyed) i
+
+    pub aggs_first : IsFirst e (flat_map (λ t. refusals_of t scope Aggregation) aggs) → IsFirst e (step_refusals (group keys aggs None) (alone cs))
+    aggs_first h =
+        let a : IsFirst e A = subst (λ (s : Scope). IsFirst e (flat_map (λ t. refusals_of t s Aggregation) aggs)) is h in
+        let nka : IsFirst e ((N ++ K) ++ A) = subst (λ (n : List PxError). IsFirst e (n ++ A)) (sym no_keys) a in
+        IsFirst_append e (((N ++ K) ++ A) ++ R) [] (IsFirst_append e ((N ++ K) ++ A) R nka)
+
+    module _ (typed : flat_map (λ t. refusals_of t scope Aggregation) aggs ≡ []) where
+      no_typed : (N ++ K) ++ A ≡ []
+      no_typed = λ i. no_keys i ++ (ap (λ (s : Scope). flat_map (λ t. refusals_of t s Aggregation) aggs) (sym is) ∙ typed) i
+
+      pub names_first : IsFirst e R → IsFirst e (step_refusals (group keys aggs None) (alone cs))
+      names_first h =
+          let all : IsFirst e (((N ++ K) ++ A) ++ R) = subst (λ (n : List PxError). IsFirst e (n ++ R)) (sym no_typed) h in
+          IsFirst_append e (((N ++ K) ++ A) ++ R) [] all
+
+      pub none_first : R ≡ [] → step_refusals (group keys aggs None) (alone cs) ≡ []
+      none_first h = λ i. (no_typed i ++ h i) ++ []

@@ -1,0 +1,112 @@
+-- What holds of a list holds of an item of it, and what holds of an item may hold of the list.
+use Rattle.std.proofs.Common.{◌≡◌, ◌⊎◌, inl, inr, ℕ, zero, suc, ◌+◌, ◌<◌, ◌≤◌, ◌^◌, Bool, true, ◌&&◌, List, [], ◌∷◌, ◌++◌, Option, Some, None, Result, Ok, Err, IfOk, option_map, option_and_then, length, drop, map, get_or, append_assoc, max, sum, refl, sym, ◌∙◌, ap, arith, subst}
+use Rattle.std.specs.List.{flat_map, list_all}
+use Rattle.std.proofs.lemmas.List.{at_drop_more}
+use Rattle.std.proofs.lemmas.List.Sums.{sum_by-cons}
+use Rattle.px_column.specs.declared.error.PxError.{PxError}
+use Rattle.px_expr.specs.Value.{IsOneOf}
+use Rattle.px_steps.specs.Finds.{Lacks}
+use Rattle.px_column.specs.Option.{each}
+use Rattle.px_steps.specs.Form.{with_front}
+use Rattle.px_steps.specs.Meets.{IsFirst}
+use Rattle.px_steps.specs.Plain.{greatest}
+use Rattle.px_steps.proofs.Columns.{both}
+use Rattle.px_steps.proofs.Named.{IsFirst_append}
+use Rattle.px_steps.proofs.Selected.{nil_left, nil_right, one_left, one_right}
+
+-- an item stands in a list
+abbrev pub In : {A : Type 0} → A → List A → Type 0
+In x [] = ⊥
+In x (y ∷ ys) = (x ≡ y) ⊎ In x ys
+
+pub in_at : {A : Type 0} (xs : List A) (i : ℕ) (x : A) → i < length xs → x ≡ get_or xs i x → In x xs
+in_at [] i x h e = absurd (omega (arith, h))
+in_at (y ∷ ys) zero x h e = inl e
+in_at (y ∷ ys) (suc i) x h e = inr (in_at ys i x (omega (arith, h)) e)
+
+pub in_map : {A B : Type 0} (f : A → B) (xs : List A) (x : A) → In x xs → In (f x) (map f xs)
+in_map f [] x h = absurd h
+in_map f (y ∷ ys) x (inl e) = inl (ap f e)
+in_map f (y ∷ ys) x (inr h) = inr (in_map f ys x h)
+
+pub in_all : {A : Type 0} (test : A → Bool) (xs : List A) (x : A) → In x xs → list_all test xs ≡ true → test x ≡ true
+in_all test [] x h a = absurd h
+in_all test (y ∷ ys) x (inl e) a = ap test e ∙ (both (test y) (list_all test ys) a).0
+in_all test (y ∷ ys) x (inr h) a = in_all test ys x h (both (test y) (list_all test ys) a).1
+
+pub in_none : {A : Type 0} (f : A → List PxError) (xs : List A) (x : A) → In x xs → flat_map f xs ≡ [] → f x ≡ []
+in_none f [] x h n = absurd h
+in_none f (y ∷ ys) x (inl e) n = ap f e ∙ nil_left (f y) (flat_map f ys) n
+in_none f (y ∷ ys) x (inr h) n = in_none f ys x h (nil_right (f y) (flat_map f ys) n)
+
+one_same : (e : PxError) (xs ys : List PxError) → xs ≡ ys → IsOneOf e xs → IsOneOf e ys
+one_same e xs ys s h = let P : List PxError → Type 0 = IsOneOf e in subst P s h
+
+pub in_one : {A : Type 0} (f : A → List PxError) (xs : List A) (x : A) (e : PxError) → In x xs → IsOneOf e (f x) → IsOneOf e (flat_map f xs)
+in_one f [] x e h o = absurd h
+in_one f (y ∷ ys) x e (inl s) o = one_left e (f y) (flat_map f ys) (one_same e (f x) (f y) (ap f s) o)
+in_one f (y ∷ ys) x e (inr h) o = one_right e (f y) (flat_map f ys) (in_one f ys x e h o)
+
+pub in_greatest : {A : Type 0} (f : A → ℕ) (xs : List A) (x : A) → In x xs → f x ≤ greatest (map f xs)
+in_greatest f [] x h = absurd h
+in_greatest f (y ∷ ys) x (inl e) = let same : f x ≡ f y = ap f e in omega arith
+in_greatest f (y ∷ ys) x (inr h) = let rest = in_greatest f ys x h in omega (arith, rest)
+
+pub in_sum : {A : Type 0} (f : A → ℕ) (xs : List A) (x : A) → In x xs → f x ≤ sum (map f xs)
+in_sum f [] x h = absurd h
+in_sum f (y ∷ ys) x (inl e) =
+    let same : f x ≡ f y = ap f e in
+    let first : sum (map f (y ∷ ys)) ≡ f y + sum (map f ys) = sum_by-cons (λ n. n) (f y) (map f ys) in
+    omega arith
+in_sum f (y ∷ ys) x (inr h) =
+    let rest = in_sum f ys x h in
+    let first : sum (map f (y ∷ ys)) ≡ f y + sum (map f ys) = sum_by-cons (λ n. n) (f y) (map f ys) in
+    omega (arith, rest)
+
+pub all_push : {A : Type 0} (test : A → Bool) (xs : List A) (x : A) → list_all test xs ≡ true → test x ≡ true → list_all test (xs ++ x ∷ []) ≡ true
+all_push test [] x h e = λ i. e i && true
+all_push test (y ∷ ys) x h e = let p = both (test y) (list_all test ys) h in λ i. p.0 i && all_push test ys x p.1 e i
+
+-- what holds of a value holds of what is answered
+pub if_ok : {X E : Type 0} {P Q : X → Type 0} (r : Result X E) → IfOk r P → ((x : X) → P x → Q x) → IfOk r Q
+if_ok (Ok x) h f = f x h
+if_ok (Err e) h f = h
+
+-- one more made value moves to the front
+front_moved : {A B : Type 0} (f : A → Option B) (x : A) (xs : List A) (front : List B) (y : B) → f x ≡ Some y → with_front (front ++ y ∷ []) (each f xs) ≡ with_front front (each f (x ∷ xs))
+front_moved {A} {B} f x xs front y e =
+    moved (each f xs) ∙ ap (λ o. with_front front (option_and_then (λ z. option_map (λ ys. z ∷ ys) (each f xs)) o)) (sym e)
+  where
+    moved : (o : Option (List B)) → with_front (front ++ y ∷ []) o ≡ with_front front (option_map (λ ys. y ∷ ys) o)
+    moved None = refl
+    moved (Some ys) = ap Some (append_assoc front (y ∷ []) ys)
+
+-- a loop over a list, of whose items a part is seen, at the item x
+module _ {X A : Type 0} (v : X → A) (xs : List X) (i : ℕ) (x : X) (below : i < length xs) (is : x ≡ get_or xs i x) where
+  at : {Y : Type 0} (f : List A → Y) → f (map v (drop i xs)) ≡ f (v x ∷ map v (drop (i + 1) xs))
+  at f = at_drop_more (λ es. f (map v es)) xs i x below ∙ ap (λ e. f (v e ∷ map v (drop (i + 1) xs))) (sym is)
+
+  pub in_here : In (v x) (map v xs)
+  in_here = in_map v xs x (in_at xs i x below is)
+
+  pub sound_next : (f : A → List PxError) (all : List PxError) → flat_map f (map v (drop i xs)) ≡ all → f (v x) ≡ [] → flat_map f (map v (drop (i + 1) xs)) ≡ all
+  sound_next f all h e = sym (at (flat_map f) ∙ ap (λ es. es ++ flat_map f (map v (drop (i + 1) xs))) e) ∙ h
+
+  pub first_here : (f : A → List PxError) (e : PxError) → flat_map f (map v (drop i xs)) ≡ flat_map f (map v xs) → IsFirst e (f (v x)) → IsFirst e (flat_map f (map v xs))
+  first_here f e h n = subst (λ (es : List PxError). IsFirst e es) (sym (at (flat_map f)) ∙ h) (IsFirst_append e (f (v x)) (flat_map f (map v (drop (i + 1) xs))) n)
+
+  pub values_next : {B : Type 0} (f : A → Option B) (front new : List B) (b : B) (all : Option (List B)) → with_front front (each f (map v (drop i xs))) ≡ all → f (v x) ≡ Some b → new ≡ front ++ b ∷ []
+      → with_front new (each f (map v (drop (i + 1) xs))) ≡ all
+  values_next f front new b all h e made =
+      ap (λ bs. with_front bs (each f (map v (drop (i + 1) xs)))) made
+      ∙ front_moved f (v x) (map v (drop (i + 1) xs)) front b e
+      ∙ sym (at (λ es. with_front front (each f es))) ∙ h
+
+-- what lacks at an item lacks at all, among no fewer values
+pub lacks_in : {A : Type 0} (e : PxError) (faults : A → List PxError) (size : A → ℕ) (xs : List A) (x : A) → In x xs → Lacks e (faults x) (size x) → Lacks e (flat_map faults xs) (greatest (map size xs))
+lacks_in e faults size xs x h (inl m) = inl m
+lacks_in e faults size xs x h (inr (inl o)) = inr (inl (in_one faults xs x e h o))
+lacks_in e faults size xs x h (inr (inr l)) = inr (inr (l.0, longer (size x) (greatest (map size xs)) l.1 (in_greatest size xs x h)))
+  where
+    longer : (m n : ℕ) → 2 ^ 32 ≤ m → m ≤ n → 2 ^ 32 ≤ n
+    longer m n p q = omega arith

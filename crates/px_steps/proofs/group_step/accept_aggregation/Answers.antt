@@ -1,0 +1,10 @@
+use Rattle.std.proofs.lemmas.Result.{err_from_is_err_and}
+use Rattle.px_plan.specs.View.{tree}
+use Rattle.px_plan.specs.declared.context.Context.TheVariants.{Aggregation}
+use Rattle.px_steps.proofs.GroupStep.{type_refused}
+use Rattle.px_steps.proofs.group_step.accept_aggregation.Goals as goal
+
+pub returns-in_err-type_of : goal.returns-in_err-type_of
+returns-in_err-type_of c =
+    let p = err_from_is_err_and c.from_residual.result c.from_residual.ensures.1 in
+    rw (p.1, p.2) (type_refused c.in_err-type_of.field-0.0 (tree c.args.expr.now) c.args.schema.now.value Aggregation c.requires (rw c.deref.ensures at c.in_err-type_of.ensures))

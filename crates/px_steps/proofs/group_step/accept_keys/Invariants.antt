@@ -1,0 +1,12 @@
+use Rattle.std.proofs.Common.{◌≡◌, map, drop, true}
+use Rattle.std.specs.List.{flat_map, list_all}
+use Rattle.px_expr.specs.Built.{is_built_tree}
+use Rattle.px_plan.specs.View.{tree}
+use Rattle.px_steps.specs.Finds.{typed_key_refusals}
+use Rattle.px_steps.proofs.group_step.accept_keys.Given as goal
+
+abbrev pub invariant-loop-key : goal.invariant-loop-key
+invariant-loop-key l = record {
+  built : list_all is_built_tree (map tree (drop l.key-index l.keys)) ≡ true;
+  refused : flat_map (typed_key_refusals l.schema.value) (map tree (drop l.key-index l.keys)) ≡ flat_map (typed_key_refusals l.schema.value) (map tree l.keys);
+}

@@ -1,0 +1,74 @@
+-- What is found of expressions that are not refused: what they mean, or a fault, or too many values.
+use Rattle.std.specs.Prelude.{◌≡◌, ◌⊎◌, ℕ, ◌^◌, ◌≤◌, true, List, [], ◌∷◌, ◌++◌, Option, Some, Result, Ok, Err, map, if◌then◌else◌}
+use Rattle.std.specs.List.{flat_map}
+use Rattle.std.specs.Option.{option_map_or}
+use Rattle.px_column.specs.Datum.{Slot}
+use Rattle.px_column.specs.Kind.{Kind, lists, slot_fits}
+use Rattle.px_column.specs.Series.{Series}
+use Rattle.px_column.specs.declared.error.PxError.{PxError}
+use Rattle.px_column.specs.declared.error.PxError.TheVariants.{ComputeError, Duplicate, InvalidOperation, OutOfMemory}
+use Rattle.px_column.specs.declared.error.InvalidWhy.TheVariants.{ListKey}
+use Rattle.px_column.specs.declared.error.ComputeWhy.TheVariants.{TooLong}
+use Rattle.px_expr.specs.Built.{is_built_tree}
+use Rattle.px_expr.specs.Plan.{planned_over}
+use Rattle.px_expr.specs.Planned.{Planned}
+use Rattle.px_expr.specs.Value.{IsOneOf}
+use Rattle.px_frame.specs.External.{Frame, rows_of_frame}
+use Rattle.px_frame.specs.Frame.{first_repeat}
+use Rattle.px_frame.specs.Schema.{column_field}
+use Rattle.px_frame.specs.Spread.{NamedCell}
+use Rattle.px_plan.specs.Node.{is_unit_cell}
+use Rattle.px_plan.specs.Shape.{name_of}
+use Rattle.px_plan.specs.Tree.{Tree}
+use Rattle.px_plan.specs.Typing.{Scope, fails, kind_in, not_list, refusals_of, refused_where}
+use Rattle.px_plan.specs.Value.{faults_on, value_on}
+use Rattle.px_plan.specs.declared.context.Context.TheVariants.{Default}
+use Rattle.px_steps.specs.Plain.{grouped_kind, height_fault}
+
+-- memory was wanting, or one of some faults stands, or so many values are too many
+abbrev pub Lacks : PxError → List PxError → ℕ → Type 0
+Lacks e faults n = (e ≡ OutOfMemory) ⊎ (IsOneOf e faults ⊎ ((e ≡ ComputeError TooLong) × (2 ^ 32 ≤ n)))
+
+-- there is no fault, and what was found, seen by view, is what is meant; or why nothing was found, among so many values
+abbrev pub FindsBy : {X Y : Type 0} → (X → Y) → Result X PxError → Option Y → List PxError → ℕ → Type 0
+FindsBy view (Ok x) meant faults n = (faults ≡ []) × (meant ≡ Some (view x))
+FindsBy view (Err e) meant faults n = Lacks e faults n
+
+-- the same, where what was found is its own view
+abbrev pub Finds : {X : Type 0} → Result X PxError → Option X → List PxError → ℕ → Type 0
+Finds (Ok x) meant faults n = (faults ≡ []) × (meant ≡ Some x)
+Finds (Err e) meant faults n = Lacks e faults n
+
+-- an expression that has nodes, planned over the names and types of some columns, and not refused there
+pub record IsAccepted (p : Planned) (columns : List Series) : Type 0 where
+  pub built : is_built_tree p.tree ≡ true
+  pub over : p ≡ planned_over (map column_field columns) p.tree
+  pub accepted : refusals_of p.tree (map column_field columns) Default ≡ []
+
+-- the first expression's name that stands among these names, or twice
+abbrev pub repeat_beside : List (List ℕ) → List Tree → List PxError
+repeat_beside names es = option_map_or (λ n. Duplicate n ∷ []) (first_repeat names (map name_of es)) []
+
+-- why a key is refused over these names and types: it is typed on the frame, and is no list
+abbrev pub typed_key_refusals : Scope → Tree → List PxError
+typed_key_refusals scope e = refusals_of e scope Default ++ refused_where (fails not_list (kind_in e scope)) (InvalidOperation ListKey)
+
+-- the faults of a key's value, also where it has not the frame's height
+abbrev pub key_faults : Frame → Tree → List PxError
+key_faults frame e = faults_on e frame ++ height_fault frame (value_on e frame)
+
+-- the frames of some parts of a frame
+abbrev pub part_frames : Frame → List (List ℕ) → List Frame
+part_frames frame parts = map (rows_of_frame frame) parts
+
+-- the faults of an expression's values on each of some parts
+abbrev pub part_faults : Frame → List (List ℕ) → Tree → List PxError
+part_faults frame parts e = flat_map (λ p. faults_on e (rows_of_frame frame p)) parts
+
+-- the type of a cell as one value: of a unit its own, of rows a list of them
+abbrev pub value_kind : NamedCell → Kind
+value_kind c = if is_unit_cell c.cell then c.kind else lists c.kind
+
+-- a value fits the type that an expression over some columns has on groups
+abbrev pub FitsGrouped : Tree → List Series → Slot → Type 0
+FitsGrouped e columns s = (k : Kind) → kind_in e (map column_field columns) ≡ Some k → slot_fits (grouped_kind e k) s ≡ true

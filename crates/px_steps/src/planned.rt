@@ -1,0 +1,81 @@
+//! Expressions as nodes, and what these give on a frame.
+ghost use Rattle.std.specs.Prelude.{◌≡◌, ◌++◌, [], Some, IfOk, IfErr, OnOk, map, true};
+ghost use Rattle.px_expr.specs.Built.{is_built_tree};
+ghost use Rattle.px_expr.specs.NodeView.{plan_of};
+ghost use Rattle.px_expr.specs.Plan.{planned_over};
+ghost use Rattle.px_expr.specs.Value.{IsCause};
+ghost use Rattle.px_frame.specs.CellView.{named_cell};
+ghost use Rattle.px_frame.specs.External.{alone};
+ghost use Rattle.px_plan.specs.Node.{is_unit_cell};
+ghost use Rattle.px_plan.specs.Shape.{is_unit, name_of};
+ghost use Rattle.px_plan.specs.Typing.{refusals_of};
+ghost use Rattle.px_plan.specs.Value.{faults_on};
+ghost use Rattle.px_plan.specs.View.{tree};
+ghost use Rattle.px_steps.specs.Finds.{repeat_beside};
+ghost use Rattle.px_steps.specs.Meets.{Meets, MeetsBy};
+ghost use Rattle.px_steps.specs.Plain.{named_value};
+
+use indexmap::IndexSet;
+use px_column::{Name, Px, PxError, Steps};
+use px_expr::{ExpressionConversionState, PhysExpr, PhysicalExpr, create_physical_expr};
+use px_frame::{Cell, DataFrame, SchemaRef, UnitColumn, add_name};
+use px_plan::{Arena, Context, Expr, ExprIR, fits_arena, output_name, to_arena};
+use px_window::ExecutionState;
+use std::alloc::Global;
+use std::sync::ledger::Ledger;
+
+/// The node of an expression over a schema, or its first refusal in its place.
+#[tactic(auto, using(crate::proofs::Selected::planned_meets))]
+pub(crate) fn planned(
+    alloc: Global,
+    expr: &Expr,
+    schema: &SchemaRef,
+    context: Context,
+) -> Px<PhysExpr>
+    requires { is_built_tree (tree expr.now) ≡ true }
+    ensures { MeetsBy plan_of result (refusals_of (tree expr.now) schema.now.value context) (Some (planned_over schema.now.value (tree expr.now))) }
+{
+    let mut arena = Arena::new(alloc)?;
+    if !fits_arena(expr, &arena) {
+        return Err(PxError::OutOfMemory);
+    }
+    let node = to_arena(alloc, expr, &mut arena)?;
+    let expr_ir = ExprIR::new(node, None);
+    let mut noted = ExpressionConversionState::new(0);
+    create_physical_expr(alloc, &expr_ir, context, &arena, schema, &mut noted)
+}
+
+/// Adds the expressions' names to some names; `Duplicate` with the first that stands there already.
+pub(crate) fn add_names(alloc: Global, names: &mut IndexSet<Name>, exprs: &[Expr]) -> Px<()>
+    ensures answer { Meets result (repeat_beside names.old.keys (map tree exprs.now)) (Some tt) }
+    ensures added { OnOk result (names.new.keys ≡ names.old.keys ++ map name_of (map tree exprs.now)) }
+{
+    for expr in exprs {
+        add_name(alloc, names, &output_name(alloc, expr)?)?;
+    }
+    Ok(())
+}
+
+/// The value of a planned expression, as one value or one for each of some rows.
+pub(crate) fn cell_on<L: Ledger, M: Ledger>(
+    alloc: Global,
+    frame: &DataFrame,
+    node: &PhysExpr,
+    state: &mut ExecutionState,
+    kernels: &mut Steps<L>,
+    groupings: &mut Steps<M>,
+) -> Px<Cell>
+    ensures value { IfOk result (λ c. named_value (alone frame.now) (plan_of node.now).tree ≡ Some (named_cell c)) }
+    ensures shape { IfOk result (λ c. is_unit_cell (named_cell c).cell ≡ is_unit (plan_of node.now).tree) }
+    ensures sound { OnOk result (faults_on (plan_of node.now).tree (alone frame.now) ≡ []) }
+    ensures causes { IfErr result (λ e. IsCause e (plan_of node.now) (alone frame.now)) }
+    ensures state { state.new ≡ state.old }
+    ensures grouped { groupings.new ≡ groupings.old }
+{
+    let column = node.evaluate(alloc, frame, state, kernels, groupings)?;
+    if node.is_scalar() {
+        Ok(Cell::Unit(UnitColumn::new(column)))
+    } else {
+        Ok(Cell::Rows(column))
+    }
+}
