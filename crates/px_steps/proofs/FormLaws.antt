@@ -1,25 +1,23 @@
 -- The forms that are read are forms of a document.
-use Rattle.std.proofs.Common.{◌≡◌, ℕ, zero, suc, ◌+◌, max, ◌==◌, Bool, true, false, cond, List, [], ◌∷◌, Option, Some, None, option_map, option_and_then, length, codes, refl, sym, ◌∙◌, ap, subst, arith}
-use Rattle.std.specs.Cmp.{Equal-is}
+use Rattle.std.proofs.Common.{◌≡◌, ℕ, suc, max, ◌==◌, Bool, true, false, cond, List, [], ◌∷◌, Option, Some, None, option_map, length, codes, refl, sym, ◌∙◌, ap, arith}
 use Rattle.std.specs.Cmp.Lexicographic.{slice_cmp}
 use Rattle.std.specs.Ordering.{nat_cmp, match_ordering, is_eq}
-use Rattle.std.specs.Prelude.{is_some, nat_le, unwrap_or}
-use Rattle.std.specs.Str.{bytes_eq}
+use Rattle.std.specs.Prelude.{is_some, nat_le}
 use Rattle.std.specs.declared.cmp.Ordering.{Ordering}
 use Rattle.std.specs.declared.cmp.Ordering.TheVariants.{Less, Equal, Greater}
 use Rattle.std.proofs.lemmas.Bool.Decides.{nat_tests}
 use Rattle.std.proofs.lemmas.Map.Text.{is_eq-slice_cmp}
 use Rattle.std.proofs.lemmas.Slice.Eq.{bytes_eq-Decides}
-use Rattle.serde_json.specs.Data.{Data, null, boolean, number, string, array, object, Items, no_items, item, Members, no_members, member, depth}
-use Rattle.serde_json.specs.Find.{as_null, as_str, as_array, get, get_member}
+use Rattle.serde_json.specs.Data.{Data, null, boolean, number, string, array, object, no_items, item, no_members, member, depth}
+use Rattle.serde_json.specs.Find.{as_null, as_str, get, get_member}
 use Rattle.px_column.specs.Option.{◌>>=◌, each}
 use Rattle.px_column.specs.declared.method.GroupByMethod.TheVariants.{Sum}
 use Rattle.px_plan.specs.Tree.{Tree, column, agg, len}
 use Rattle.px_steps.specs.Document.{Doc, column_of, document_of, document_of_parts, group_of_parts, step_of, steps_of, key_of, agg_of, is_len, is_sum, reduction_of, reduction_of_parts}
-use Rattle.px_steps.specs.ExprForm.{expr_of, expr_within, expr_form, reduction_named}
+use Rattle.px_steps.specs.ExprForm.{expr_of, expr_within}
 use Rattle.px_steps.specs.StepForm.{any_document_of, any_document_parts, any_step_of, any_steps_of, chunk_length_of, chunks_of, group_parts}
 use Rattle.px_steps.specs.Step.{PlainStep, group}
-use Rattle.px_steps.specs.Form.{field, fields, items, listed, has_members, member_count, only}
+use Rattle.px_steps.specs.Form.{field, fields, items, member_count, only}
 
 same_key : (k m : List ℕ) → slice_cmp nat_cmp k m ≡ Equal → k ≡ m
 same_key k m h = (bytes_eq-Decides k m).0 (sym (is_eq-slice_cmp k m) ∙ ap is_eq h)

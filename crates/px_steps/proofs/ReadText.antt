@@ -1,6 +1,5 @@
 -- The documents that are read are those of the forms that are run.
-use Rattle.std.proofs.Common.{◌≡◌, ℕ, List, Option, Some, None, option_and_then, ◌∙◌, ap}
-use Rattle.serde_json.specs.Data.{Data}
+use Rattle.std.proofs.Common.{ℕ, List, option_and_then, ◌∙◌, ap}
 use Rattle.serde_json.specs.Read.{read}
 use Rattle.px_steps.specs.Document.{Doc, IsReadText, document_of}
 use Rattle.px_steps.specs.DocumentText.{IsDocumentText}
