@@ -1,10 +1,9 @@
 -- One more value of a planned expression.
-use Rattle.std.proofs.Common.{◌≡◌, ◌⊎◌, inl, inr, ℕ, ◌+◌, ◌<◌, List, [], ◌∷◌, ◌++◌, Option, Some, None, option_map, option_and_then, length, drop, map, get_or, refl, sym, ◌∙◌, ap, append_assoc, subst}
+use Rattle.std.proofs.Common.{◌≡◌, inl, inr, ℕ, ◌+◌, ◌<◌, List, [], ◌∷◌, ◌++◌, Option, Some, length, drop, map, get_or, sym, ◌∙◌, ap, subst}
 use Rattle.std.specs.List.{flat_map}
 use Rattle.std.proofs.lemmas.List.{at_drop_more, map-append}
 use Rattle.px_column.specs.Option.{each}
 use Rattle.px_column.specs.declared.error.PxError.{PxError}
-use Rattle.px_column.specs.declared.error.PxError.TheVariants.{OutOfMemory}
 use Rattle.px_expr.specs.NodeView.{plan_of}
 use Rattle.px_expr.specs.Value.{IsCause}
 use Rattle.px_expr.specs.declared.node.PhysExpr.{PhysExpr}
@@ -16,15 +15,7 @@ use Rattle.px_plan.specs.Value.{faults_on}
 use Rattle.px_steps.specs.Causes.{IsCauseOfAny}
 use Rattle.px_steps.specs.Form.{with_front}
 use Rattle.px_steps.specs.Plain.{named_value}
-
--- one more made value moves to the front
-front_moved : {A B : Type 0} (f : A → Option B) (x : A) (xs : List A) (front : List B) (y : B) → f x ≡ Some y → with_front (front ++ y ∷ []) (each f xs) ≡ with_front front (each f (x ∷ xs))
-front_moved f x xs front y e =
-    moved (each f xs) ∙ ap (λ o. with_front front (option_and_then (λ z. option_map (λ ys. z ∷ ys) (each f xs)) o)) (sym e)
-  where
-    moved : (o : Option (List _)) → with_front (front ++ y ∷ []) o ≡ with_front front (option_map (λ ys. y ∷ ys) o)
-    moved None = refl
-    moved (Some ys) = ap Some (append_assoc front (y ∷ []) ys)
+use Rattle.px_steps.proofs.Members.{front_moved}
 
 module _ (frame : Frame) (nodes : List PhysExpr) (i : ℕ) (n : PhysExpr) (below : i < length nodes) (is : n ≡ get_or nodes i n) where
   at : {Y : Type 0} (f : List PhysExpr → Y) → f (drop i nodes) ≡ f (n ∷ drop (i + 1) nodes)

@@ -1,27 +1,18 @@
 -- The columns of a group step: their names, their lengths, and the frame that they make.
-use Rattle.std.proofs.Common.{◌≡◌, ℕ, ◌<◌, Bool, true, false, not, ◌&&◌, ◌||◌, List, [], ◌∷◌, ◌++◌, Option, Some, None, Result, Ok, Err, length, map, get_or, refl, sym, ◌∙◌, ap, arith, subst, option_map, option_and_then, if◌then◌else◌}
-use Rattle.std.specs.List.{list_all, list_any, flat_map}
+use Rattle.std.proofs.Common.{◌≡◌, ℕ, ◌<◌, Bool, true, false, not, ◌&&◌, ◌||◌, List, [], ◌∷◌, ◌++◌, Option, Some, None, Ok, Err, length, map, refl, sym, ◌∙◌, ap, arith, subst, option_map, option_and_then, if◌then◌else◌}
+use Rattle.std.specs.List.{list_all, list_any}
 use Rattle.std.proofs.lemmas.Bool.Decides.{nat_tests}
 use Rattle.std.proofs.lemmas.List.{length-map}
-use Rattle.px_column.specs.Answer.{Answers, Refuses}
 use Rattle.px_column.specs.Series.{Series, slot_at}
-use Rattle.px_column.specs.declared.error.PxError.{PxError}
-use Rattle.px_column.specs.declared.error.PxError.TheVariants.{Duplicate, ShapeMismatch, InvalidOperation}
+use Rattle.px_column.specs.declared.error.PxError.TheVariants.{ShapeMismatch, InvalidOperation}
 use Rattle.px_column.specs.declared.error.InvalidWhy.TheVariants.{ListKey}
 use Rattle.px_frame.specs.Aggregate.{key_column}
-use Rattle.px_frame.specs.Frame.{names_of, height_of, has_height, all_have_height, is_even, first_repeat, frame_of, unless_repeated}
-use Rattle.px_frame.specs.Groups.{Group, Groups, group_of, grouped, groups_by, first_row, is_list, rows_of}
-use Rattle.px_frame.specs.Parts.{parts_of}
-use Rattle.px_plan.specs.Shape.{name_of, is_unit}
-use Rattle.px_steps.specs.Direct.{kind_on, value_on, first_of_two, aggregated_on, value_on_part, grouped_kind, columns_on, repeat_refusal, key_on, spread, key_refusals, agg_refusals, step_refusals, step_on}
+use Rattle.px_frame.specs.Frame.{names_of, height_of, has_height, all_have_height, is_even}
+use Rattle.px_frame.specs.Groups.{Group, group_of, grouped, groups_by, first_row, is_list}
 use Rattle.px_plan.specs.Tree.{Tree}
 use Rattle.px_steps.specs.Built.{is_key}
 use Rattle.px_column.specs.Option.{each}
-use Rattle.px_steps.specs.Form.{with_front}
-use Rattle.px_steps.specs.Meets.{IsFirst, Meets}
 use Rattle.px_steps.specs.Plain.{key_values}
-use Rattle.px_steps.specs.Step.{group}
-use Rattle.px_steps.proofs.Named.{refuses_first, refuses_none, IsFirst_append, IsFirst_or}
 
 pub and_then_some : {A B : Type 0} (o : Option A) (f : A → Option B) (b : B) → option_and_then f o ≡ Some b → (a : A) × (o ≡ Some a) × (f a ≡ Some b)
 and_then_some None f b h = cc
@@ -70,16 +61,6 @@ made_each f seen of (t ∷ ts) made h e =
     let rest = map_some (each f ts) (λ ys. first.0 ∷ ys) made first.2 in
     ap (map seen) (sym rest.2) ∙ (λ i. h t first.0 first.1 i ∷ made_each f seen of ts rest.0 h rest.1 i)
 
-aggregated_name : (frame : List Series) (ps : List (List ℕ)) (t : Tree) (c : Series) → aggregated_on frame ps t ≡ Some c → c.name ≡ name_of t
-aggregated_name frame ps t c e =
-    let made = map_some (kind_on t frame) (λ k. record { name = name_of t; kind = grouped_kind (is_unit t) k; slots = map (value_on_part frame t) ps }) c e in
-    ap (λ s. s.name) (sym made.2)
-
-aggregated_height : (frame : List Series) (ps : List (List ℕ)) (t : Tree) (c : Series) → aggregated_on frame ps t ≡ Some c → has_height (length ps) c ≡ true
-aggregated_height frame ps t c e =
-    let made = map_some (kind_on t frame) (λ k. record { name = name_of t; kind = grouped_kind (is_unit t) k; slots = map (value_on_part frame t) ps }) c e in
-    has_length (length ps) c (ap (λ s. length s.slots) (sym made.2) ∙ length-map ps (value_on_part frame t))
-
 pub all_true : {X : Type 0} (test : Series → Bool) (xs : List X) (made : List Series) → map test made ≡ map (λ _. true) xs → list_all test made ≡ true
 all_true test xs [] e = refl
 all_true test [] (c ∷ made) e = cc
@@ -116,52 +97,6 @@ pub even_from : (n : ℕ) (columns : List Series) → all_have_height n columns 
 even_from n [] h = refl
 even_from n (s ∷ columns) h = subst (λ (m : ℕ). all_have_height m (s ∷ columns) ≡ true) (its_length n s (both (has_height n s) (all_have_height n columns) h).0) h
 
--- the columns' names are those of the keys and the aggregations, and they are of one length
-names_made : (frame by : List Series) (ts : List Tree) (columns : List Series) → columns_on frame by ts ≡ Some columns → names_of columns ≡ names_of by ++ map name_of ts
-names_made frame by ts columns e =
-    let ps = parts_of by (height_of frame) in
-    let made = map_some (each (aggregated_on frame ps) ts) (λ ys. map (key_values ps) by ++ ys) columns e in
-    ap names_of (sym made.2) ∙ map_append (λ s. s.name) (map (key_values ps) by) made.0
-    ∙ (λ i. names_of_keys ps by i ++ made_each (aggregated_on frame ps) (λ s. s.name) name_of ts made.0 (aggregated_name frame ps) made.1 i)
-
-even_made : (frame by : List Series) (ts : List Tree) (columns : List Series) → columns_on frame by ts ≡ Some columns → is_even columns ≡ true
-even_made frame by ts columns e =
-    let ps = parts_of by (height_of frame) in
-    let made = map_some (each (aggregated_on frame ps) ts) (λ ys. map (key_values ps) by ++ ys) columns e in
-    let values = all_true (has_height (length ps)) ts made.0 (made_each (aggregated_on frame ps) (has_height (length ps)) (λ _. true) ts made.0 (aggregated_height frame ps) made.1) in
-    even_from (length ps) columns (ap (all_have_height (length ps)) (sym made.2) ∙ all_append (has_height (length ps)) (map (key_values ps) by) made.0 (heights_of_keys ps by) values)
-
--- the frame that is made of the columns, or the name that stands twice
-pub frame_meets : (frame by : List Series) (ts : List Tree) (columns : List Series) (r : Result (List Series) PxError)
-    → columns_on frame by ts ≡ Some columns → Answers r (frame_of columns)
-    → Meets r (repeat_refusal (first_repeat [] (names_of by ++ map name_of ts))) (columns_on frame by ts)
-frame_meets frame by ts columns r e a =
-    made (first_repeat [] (names_of by ++ map name_of ts)) (ap (first_repeat []) (names_made frame by ts columns e)) r a
-  where
-    made : (o : Option (List ℕ)) → first_repeat [] (names_of columns) ≡ o → (q : Result (List Series) PxError) → Answers q (frame_of columns) → Meets q (repeat_refusal o) (columns_on frame by ts)
-    made None h (Ok c) b =
-        let is : frame_of columns ≡ Ok columns = ap (λ t. unless_repeated t (if is_even columns then Ok columns else Err ShapeMismatch)) h ∙ ap (λ (t : Bool). if t then Ok columns else Err ShapeMismatch) (even_made frame by ts columns e) in
-        let same : columns ≡ c = cc in
-        (refl, e ∙ ap Some same)
-    made None h (Err f) b =
-        let is : frame_of columns ≡ Ok columns = ap (λ t. unless_repeated t (if is_even columns then Ok columns else Err ShapeMismatch)) h ∙ ap (λ (t : Bool). if t then Ok columns else Err ShapeMismatch) (even_made frame by ts columns e) in
-        refuses_none f columns [] (subst (λ (x : Result (List Series) PxError). Refuses f x) is b)
-    made (Some n) h (Ok c) b =
-        let is : frame_of columns ≡ Err (Duplicate n) = ap (λ t. unless_repeated t (if is_even columns then Ok columns else Err ShapeMismatch)) h in
-        cc
-    made (Some n) h (Err f) b =
-        let is : frame_of columns ≡ Err (Duplicate n) = ap (λ t. unless_repeated t (if is_even columns then Ok columns else Err ShapeMismatch)) h in
-        refuses_first _ f (Duplicate n) [] (subst (λ (x : Result (List Series) PxError). Refuses f x) is b)
-
--- what the kernels made for the groups is what the definition says of the parts
-pub columns_made : (frame by : List Series) (ts : List Tree) (g : Groups) (keys new : List Series) → g ≡ groups_by by (height_of frame) → keys ≡ map (key_column g.groups) by
-    → with_front keys (each (aggregated_on frame (rows_of g)) ts) ≡ Some new → columns_on frame by ts ≡ Some new
-columns_made frame by ts g keys new e k h =
-    let ps = parts_of by (height_of frame) in
-    let rows : rows_of g ≡ ps = ap rows_of e ∙ rows_of_groups ps in
-    let values : keys ≡ map (key_values ps) by = k ∙ ap (λ (x : Groups). map (key_column x.groups) by) e ∙ keys_of_groups ps by in
-    sym (λ i. with_front (values i) (each (aggregated_on frame (rows i)) ts)) ∙ h
-
 -- keys are no lists and have the frame's height
 keys_plain : (frame by : List Series) → list_all (is_key frame) by ≡ true → list_any is_list by ≡ false
 keys_plain frame [] h = refl
@@ -179,31 +114,3 @@ keys_high frame (s ∷ by) h =
 
 pub grouped_by_keys : (n : ℕ) (frame by : List Series) → n ≡ height_of frame → 0 < length by → list_all (is_key frame) by ≡ true → grouped n by ≡ Ok (groups_by by (height_of frame))
 grouped_by_keys n frame by e h k = ap (λ m. grouped m by) e ∙ grouped_is (height_of frame) by h (keys_plain frame by k) (keys_high frame by k)
-
-pub one_item : {X : Type 0} (xs : List X) (x : X) → length xs ≡ 1 → x ≡ get_or xs 0 x → xs ≡ x ∷ []
-one_item [] x h e = absurd (omega (arith, h))
-one_item (y ∷ []) x h e = ap (λ z. z ∷ []) (sym e)
-one_item (y ∷ z ∷ ys) x h e = absurd (omega (arith, h))
-
-key_name : (frame : List Series) (t : Tree) (c : Series) → key_on frame t ≡ Some c → c.name ≡ name_of t
-key_name frame t c e =
-    let first = and_then_some (kind_on t frame) (λ k. option_map (λ v. record { name = name_of t; kind = k; slots = spread (height_of frame) v }) (value_on t frame)) c e in
-    let made = map_some (value_on t frame) (λ v. record { name = name_of t; kind = first.0; slots = spread (height_of frame) v }) c first.2 in
-    ap (λ s. s.name) (sym made.2)
-
--- where no key is refused, the step is what the grouping by their columns is
-pub step_meets : (frame by : List Series) (keys ts : List Tree) (chunks : Option (List ℕ)) (r : Result (List Series) PxError) → 0 < length keys → flat_map (key_refusals frame) keys ≡ [] → each (key_on frame) keys ≡ Some by
-    → Meets r (first_of_two (flat_map (agg_refusals frame) ts) (repeat_refusal (first_repeat [] (names_of by ++ map name_of ts)))) (columns_on frame by ts)
-    → Meets r (step_refusals (group keys ts chunks) frame) (step_on (group keys ts chunks) frame)
-step_meets frame by [] ts chunks r h n e m = absurd (omega (arith, h))
-step_meets frame by (t ∷ keys) ts chunks r h n e m =
-    let names : names_of by ≡ map name_of (t ∷ keys) = made_each (key_on frame) (λ s. s.name) name_of (t ∷ keys) by (key_name frame) e in
-    let refused : step_refusals (group (t ∷ keys) ts chunks) frame ≡ first_of_two (flat_map (agg_refusals frame) ts) (repeat_refusal (first_repeat [] (names_of by ++ map name_of ts))) =
-    λ i. first_of_two (n i ++ flat_map (agg_refusals frame) ts) (repeat_refusal (first_repeat [] (sym names i ++ map name_of ts))) in
-    let plain : step_on (group (t ∷ keys) ts chunks) frame ≡ columns_on frame by ts = ap (option_and_then (λ ss. columns_on frame ss ts)) e in
-    rw (refused, plain) m
-
--- a key's refusal comes first
-pub key_refused : (e : PxError) (frame : List Series) (keys ts : List Tree) (chunks : Option (List ℕ)) → 0 < length keys → IsFirst e (flat_map (key_refusals frame) keys) → IsFirst e (step_refusals (group keys ts chunks) frame)
-key_refused e frame [] ts chunks h f = absurd (omega (arith, h))
-key_refused e frame (t ∷ keys) ts chunks h f = IsFirst_or e _ _ (IsFirst_append e _ (flat_map (agg_refusals frame) ts) f)

@@ -1,11 +1,10 @@
 -- A group step's keys and columns: what they are, and what the step answers.
-use Rattle.std.proofs.Common.{◌≡◌, ◌⊎◌, inl, inr, ℕ, zero, suc, ◌+◌, ◌<◌, ◌≤◌, ◌^◌, ◌==◌, Bool, true, false, not, ◌&&◌, cond, List, [], ◌∷◌, ◌++◌, Option, Some, None, Result, Ok, Err, length, option_map, option_and_then, map, max, refl, sym, ◌∙◌, ap, subst, arith, append_assoc, replicate, if◌then◌else◌}
+use Rattle.std.proofs.Common.{◌≡◌, ◌⊎◌, inl, inr, ℕ, zero, suc, ◌<◌, ◌==◌, Bool, true, false, not, ◌&&◌, List, [], ◌∷◌, ◌++◌, Option, Some, None, Result, Ok, Err, length, option_map, option_and_then, map, refl, sym, ◌∙◌, ap, subst, arith, append_assoc, replicate, if◌then◌else◌}
 use Rattle.std.specs.List.{flat_map, list_all, list_any}
 use Rattle.std.specs.Option.{option_map_or}
 use Rattle.std.specs.Result.{result_ok}
 use Rattle.std.proofs.lemmas.Bool.Decides.{nat_tests}
-use Rattle.std.proofs.lemmas.List.{length-map}
-use Rattle.px_column.specs.Answer.{Answers, AnswersBy, Refuses}
+use Rattle.px_column.specs.Answer.{Answers, Refuses}
 use Rattle.px_column.specs.Datum.{Slot}
 use Rattle.px_column.specs.Kind.{Kind, is_list_kind}
 use Rattle.px_column.specs.Option.{each}
@@ -13,7 +12,7 @@ use Rattle.px_column.specs.Series.{Series}
 use Rattle.px_column.specs.declared.error.PxError.{PxError}
 use Rattle.px_column.specs.declared.error.PxError.TheVariants.{Duplicate, InvalidOperation, ComputeError, ShapeMismatch, OutOfMemory}
 use Rattle.px_column.specs.declared.error.InvalidWhy.TheVariants.{ListKey}
-use Rattle.px_column.specs.declared.error.ComputeWhy.TheVariants.{NoKey, TooLong}
+use Rattle.px_column.specs.declared.error.ComputeWhy.TheVariants.{NoKey}
 use Rattle.px_expr.specs.Built.{is_built_tree}
 use Rattle.px_expr.specs.Plan.{planned_over}
 use Rattle.px_expr.specs.Planned.{Planned}
@@ -22,11 +21,11 @@ use Rattle.px_frame.specs.Aggregate.{key_column}
 use Rattle.px_frame.specs.Cell.{Cell, unit, rows}
 use Rattle.px_frame.specs.External.{Frame, alone, height, rows_of_frame, scope_of}
 use Rattle.px_frame.specs.Frame.{all_have_height, first_repeat, frame_of, has_height, height_of, is_even, names_of, name_eq, unless_repeated}
-use Rattle.px_frame.specs.Groups.{Group, Groups, groups_by, is_list, rows_of}
+use Rattle.px_frame.specs.Groups.{Groups, groups_by, rows_of}
 use Rattle.px_frame.specs.Parts.{parts_of}
 use Rattle.px_frame.specs.Schema.{column_field}
 use Rattle.px_frame.specs.Spread.{NamedCell, spread, spread_column, with_slots}
-use Rattle.px_plan.specs.Shape.{is_unit, name_of}
+use Rattle.px_plan.specs.Shape.{name_of}
 use Rattle.px_plan.specs.Size.{size_on}
 use Rattle.px_plan.specs.Tree.{Tree}
 use Rattle.px_plan.specs.View.{tree}
@@ -36,13 +35,13 @@ use Rattle.px_plan.specs.Value.{faults_on, value_on}
 use Rattle.px_plan.specs.declared.context.Context.{Context}
 use Rattle.px_plan.specs.declared.context.Context.TheVariants.{Aggregation, Default}
 use Rattle.px_steps.specs.Built.{is_key}
-use Rattle.px_steps.specs.Causes.{IsSound, IsStepCause, StepAnswers}
+use Rattle.px_steps.specs.Causes.{IsStepCause, StepAnswers}
 use Rattle.px_steps.specs.Finds.{Finds, IsAccepted, Lacks, key_faults, part_faults, part_frames, repeat_beside, typed_key_refusals}
 use Rattle.px_steps.specs.Form.{with_front}
-use Rattle.px_steps.specs.Meets.{IsFirst, Meets}
-use Rattle.px_steps.specs.Plain.{agg_refusals, aggregated_on, columns_on, first_of, frames_by, greatest, grouped_kind, height_fault, height_made, key_on, key_refusals, key_values, misfit_faults, named_value, no_key_refusal, refused_by, repeat_refusal, step_faults, step_on, step_refusals, step_size, value_on_part, group_frames}
+use Rattle.px_steps.specs.Meets.{IsFirst}
+use Rattle.px_steps.specs.Plain.{agg_refusals, aggregated_on, columns_on, first_of, frames_by, greatest, grouped_kind, height_fault, key_on, key_refusals, key_values, named_value, no_key_refusal, refused_by, repeat_refusal, step_faults, step_refusals, value_on_part, group_frames}
 use Rattle.px_steps.specs.Step.{group}
-use Rattle.px_steps.proofs.Columns.{all_append, all_true, and_then_some, both, even_from, has_length, heights_of_keys, keys_of_groups, made_each, map_append, names_of_keys, rows_of_groups}
+use Rattle.px_steps.proofs.Columns.{all_append, all_true, and_then_some, even_from, has_length, heights_of_keys, keys_of_groups, made_each, map_append, names_of_keys, rows_of_groups}
 use Rattle.px_steps.proofs.Grouping.{accepted_lacks, no_refusal, value_there}
 use Rattle.px_steps.proofs.Selected.{There, kind_there, name_kept, nil_left, nil_right, no_misfits, once_none, one_left, one_right, refuses_or}
 use Rattle.px_steps.proofs.Named.{IsFirst_append, refuses_first, refuses_none}

@@ -1,7 +1,6 @@
 -- Expressions on the frames of groups: what is known of them on the whole frame is known of them there.
-use Rattle.std.proofs.Common.{◌≡◌, ◌⊎◌, inl, inr, ℕ, zero, suc, ◌+◌, ◌<◌, ◌≤◌, ◌^◌, Bool, true, false, List, [], ◌∷◌, ◌++◌, Option, Some, None, Result, Ok, Err, length, option_map, option_and_then, map, max, sum, nat_lt, get_or, slice_get, refl, sym, ◌∙◌, ap, subst, arith, if◌then◌else◌}
+use Rattle.std.proofs.Common.{◌≡◌, inl, inr, ℕ, zero, suc, ◌≤◌, ◌^◌, Bool, true, List, [], ◌∷◌, ◌++◌, Option, Some, None, Result, Ok, Err, length, option_map, option_and_then, map, max, sum, nat_lt, slice_get, refl, sym, ◌∙◌, ap, subst, arith, if◌then◌else◌}
 use Rattle.std.specs.List.{flat_map, list_all}
-use Rattle.std.proofs.lemmas.Bool.Decides.{nat_tests}
 use Rattle.px_column.specs.Answer.{Answers, AnswersBy, Refuses}
 use Rattle.px_column.specs.Datum.{Slot}
 use Rattle.px_column.specs.Column.{made}
@@ -19,8 +18,8 @@ use Rattle.px_expr.specs.Planned.{Planned}
 use Rattle.px_expr.specs.Value.{IsCause, causes_on}
 use Rattle.px_frame.specs.Cell.{Cell}
 use Rattle.px_frame.specs.External.{Frame, alone, rows_of_frame, scope_of}
-use Rattle.px_frame.specs.Frame.{are_below, series_at, subframe}
-use Rattle.px_frame.specs.Groups.{Group, Groups, IsGroups, is_group, rows_of}
+use Rattle.px_frame.specs.Frame.{are_below, subframe}
+use Rattle.px_frame.specs.Groups.{Group, IsGroups, is_group}
 use Rattle.px_frame.specs.Schema.{column_field}
 use Rattle.px_frame.specs.Spread.{NamedCell}
 use Rattle.px_plan.specs.Node.{is_unit_cell}

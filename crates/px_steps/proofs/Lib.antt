@@ -10,7 +10,6 @@ pub mod GroupStep
 pub mod CellLoop
 pub mod Grouped
 pub mod Columns
-pub mod KeyLoop
 pub mod OnlyIf
 pub mod Forms
 pub mod StepForms

@@ -1,5 +1,5 @@
 -- What holds of a list holds of an item of it, and what holds of an item may hold of the list.
-use Rattle.std.proofs.Common.{◌≡◌, ◌⊎◌, inl, inr, ℕ, zero, suc, ◌+◌, ◌<◌, ◌≤◌, ◌^◌, Bool, true, ◌&&◌, List, [], ◌∷◌, ◌++◌, Option, Some, None, Result, Ok, Err, IfOk, option_map, option_and_then, length, drop, map, get_or, append_assoc, max, sum, refl, sym, ◌∙◌, ap, arith, subst}
+use Rattle.std.proofs.Common.{◌≡◌, ◌⊎◌, inl, inr, ℕ, zero, suc, ◌+◌, ◌<◌, ◌≤◌, ◌^◌, Bool, true, ◌&&◌, List, [], ◌∷◌, ◌++◌, Option, Some, None, Result, Ok, Err, IfOk, option_map, option_and_then, length, drop, map, get_or, append_assoc, sum, refl, sym, ◌∙◌, ap, arith, subst}
 use Rattle.std.specs.List.{flat_map, list_all}
 use Rattle.std.proofs.lemmas.List.{at_drop_more}
 use Rattle.std.proofs.lemmas.List.Sums.{sum_by-cons}
@@ -73,7 +73,7 @@ if_ok (Ok x) h f = f x h
 if_ok (Err e) h f = h
 
 -- one more made value moves to the front
-front_moved : {A B : Type 0} (f : A → Option B) (x : A) (xs : List A) (front : List B) (y : B) → f x ≡ Some y → with_front (front ++ y ∷ []) (each f xs) ≡ with_front front (each f (x ∷ xs))
+pub front_moved : {A B : Type 0} (f : A → Option B) (x : A) (xs : List A) (front : List B) (y : B) → f x ≡ Some y → with_front (front ++ y ∷ []) (each f xs) ≡ with_front front (each f (x ∷ xs))
 front_moved {A} {B} f x xs front y e =
     moved (each f xs) ∙ ap (λ o. with_front front (option_and_then (λ z. option_map (λ ys. z ∷ ys) (each f xs)) o)) (sym e)
   where

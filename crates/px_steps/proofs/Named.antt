@@ -1,68 +1,24 @@
 -- Columns that are found by their names, as keys and as what is summed.
-use Rattle.std.proofs.Common.{◌≡◌, ℕ, ◌<◌, Bool, true, false, not, ◌&&◌, cond, List, [], ◌∷◌, ◌++◌, Option, Some, None, Result, Ok, Err, length, map, pos, refl, sym, ◌∙◌, ap, arith, option_map}
+use Rattle.std.proofs.Common.{◌≡◌, ℕ, Bool, true, false, cond, List, [], ◌∷◌, ◌++◌, Option, Some, None, Result, Ok, Err, length, map, pos, refl, sym, ◌∙◌, ap, option_map}
 use Rattle.std.specs.List.{find}
-use Rattle.std.proofs.lemmas.Bool.Decides.{nat_tests}
 use Rattle.std.proofs.lemmas.List.{length-map}
 use Rattle.px_column.specs.Answer.{Answers, Refuses}
 use Rattle.px_column.specs.Datum.{integer}
-use Rattle.px_column.specs.Kind.{Kind, booleans, int8s, int16s, int32s, int64s, uint8s, uint16s, uint32s, uint64s, strings, binaries, nulls, lists, is_list_kind}
+use Rattle.px_column.specs.Kind.{Kind, uint32s}
 use Rattle.px_column.specs.Series.{Series, slot_at}
 use Rattle.px_column.specs.Sum.{sum_kind, summed}
 use Rattle.px_column.specs.declared.error.PxError.{PxError}
 use Rattle.px_column.specs.declared.error.PxError.TheVariants.{ColumnNotFound, Duplicate, InvalidOperation, ComputeError, OutOfBounds, ShapeMismatch, SchemaMismatch, OutOfMemory}
-use Rattle.px_column.specs.declared.error.InvalidWhy.TheVariants.{ListKey, Types}
+use Rattle.px_column.specs.declared.error.InvalidWhy.TheVariants.{Types}
 use Rattle.px_column.specs.declared.method.GroupByMethod.TheVariants.{Sum}
 use Rattle.px_frame.specs.Aggregate.{summed_by, summed_by_kind, sums_of, counts_of}
-use Rattle.px_frame.specs.Frame.{has_name, has_height, look, height_of, series_at, slots_at, subframe}
+use Rattle.px_frame.specs.Frame.{has_name, look, series_at, slots_at, subframe}
 use Rattle.px_frame.specs.Groups.{Group, Groups, rows_of}
 use Rattle.px_plan.specs.Shape.{name_of}
-use Rattle.px_steps.specs.Direct.{first_of_two, key_on, key_refusals, list_refusal, aggregated_on, agg_refusals, value_on_part}
-use Rattle.px_steps.specs.Built.{is_key}
+use Rattle.px_steps.specs.Direct.{aggregated_on, agg_refusals, value_on_part}
 use Rattle.px_plan.specs.Tree.{column, agg, len}
 use Rattle.px_steps.specs.Meets.{IsFirst, Meets}
 use Rattle.px_steps.specs.Plain.{first_of}
-
-no_list : (k : Kind) → is_list_kind k ≡ false → list_refusal (Some k) ≡ []
-no_list booleans h = refl
-no_list int8s h = refl
-no_list int16s h = refl
-no_list int32s h = refl
-no_list int64s h = refl
-no_list uint8s h = refl
-no_list uint16s h = refl
-no_list uint32s h = refl
-no_list uint64s h = refl
-no_list strings h = refl
-no_list binaries h = refl
-no_list nulls h = refl
-no_list (lists k) h = cc
-
-a_list : (k : Kind) → is_list_kind k ≡ true → list_refusal (Some k) ≡ InvalidOperation ListKey ∷ []
-a_list booleans h = cc
-a_list int8s h = cc
-a_list int16s h = cc
-a_list int32s h = cc
-a_list int64s h = cc
-a_list uint8s h = cc
-a_list uint16s h = cc
-a_list uint32s h = cc
-a_list uint64s h = cc
-a_list strings h = cc
-a_list binaries h = cc
-a_list nulls h = cc
-a_list (lists k) h = refl
-
-pub key_found : (n : List ℕ) (frame : List Series) (s : Series) → look n frame ≡ Some s → s.name ≡ n → is_list_kind s.kind ≡ false → (key_refusals frame (column n) ≡ []) × (key_on frame (column n) ≡ Some s)
-key_found n frame s e m h = (rw e (no_list s.kind h), rw e (λ i. Some (record { name = sym m i; kind = s.kind; slots = s.slots })))
-
-pub key_list : (n : List ℕ) (frame : List Series) (s : Series) → look n frame ≡ Some s → is_list_kind s.kind ≡ true → first_of (key_refusals frame (column n)) ≡ Some (InvalidOperation ListKey)
-key_list n frame s e h = rw e (ap first_of (a_list s.kind h))
-
-pub key_missing : (n : List ℕ) (frame : List Series) → look n frame ≡ None → first_of (key_refusals frame (column n)) ≡ Some (ColumnNotFound n)
-key_missing n frame e = rw e refl
-
-pub sum_missing : (n : List ℕ) (frame : List Series) → look n frame ≡ None → first_of (agg_refusals frame (agg Sum (column n))) ≡ Some (ColumnNotFound n)
-sum_missing n frame e = rw e refl
 
 -- a refusal that is expected is the first one
 pub refuses_first : (Y : Type 0) (e first : PxError) (rest : List PxError) → Refuses {Y = Y} e (Err first) → IsFirst e (first ∷ rest)
@@ -142,26 +98,3 @@ IsFirst_append (ComputeError w) some more h = first_stays some more (ComputeErro
 IsFirst_append OutOfBounds some more h = first_stays some more OutOfBounds h
 IsFirst_append ShapeMismatch some more h = first_stays some more ShapeMismatch h
 IsFirst_append SchemaMismatch some more h = first_stays some more SchemaMismatch h
-
-first_or : (some later : List PxError) (e : PxError) → first_of some ≡ Some e → first_of (first_of_two some later) ≡ Some e
-first_or [] later e h = cc
-first_or (x ∷ xs) later e h = h
-
--- the first refusal of some is the first where others are only asked in their absence
-pub IsFirst_or : (e : PxError) (some later : List PxError) → IsFirst e some → IsFirst e (first_of_two some later)
-IsFirst_or OutOfMemory some later h = tt
-IsFirst_or (ColumnNotFound n) some later h = first_or some later (ColumnNotFound n) h
-IsFirst_or (Duplicate n) some later h = first_or some later (Duplicate n) h
-IsFirst_or (InvalidOperation w) some later h = first_or some later (InvalidOperation w) h
-IsFirst_or (ComputeError w) some later h = first_or some later (ComputeError w) h
-IsFirst_or OutOfBounds some later h = first_or some later OutOfBounds h
-IsFirst_or ShapeMismatch some later h = first_or some later ShapeMismatch h
-IsFirst_or SchemaMismatch some later h = first_or some later SchemaMismatch h
-
--- a column that is found can be a key
-pub is_key_found : (frame : List Series) (s : Series) → is_list_kind s.kind ≡ false → length s.slots ≡ height_of frame → is_key frame s ≡ true
-is_key_found frame s l h = let high : has_height (height_of frame) s ≡ true = grind (arith, nat_tests) in λ i. not (l i) && high i
-
-pub frame_has_columns : (n : List ℕ) (frame : List Series) (s : Series) → look n frame ≡ Some s → 0 < length frame
-frame_has_columns n [] s e = cc
-frame_has_columns n (x ∷ frame) s e = omega arith

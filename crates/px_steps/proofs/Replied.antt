@@ -1,5 +1,5 @@
 -- What is written for a document.
-use Rattle.std.proofs.Common.{◌≡◌, ℕ, ◌+◌, true, List, [], ◌∷◌, Some, length, refl, sym, ◌∙◌, ap, subst, Bool, false, ◌&&◌}
+use Rattle.std.proofs.Common.{◌≡◌, ℕ, ◌+◌, true, List, [], ◌∷◌, Some, refl, ◌∙◌, ap, ◌&&◌}
 use Rattle.std.specs.List.{list_all}
 use Rattle.std.specs.Prelude.{IfOk, OnOk, Result, Ok, Err}
 use Rattle.px_column.specs.Series.{Series}

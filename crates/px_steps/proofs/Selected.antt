@@ -1,5 +1,5 @@
 -- What is known of planned expressions that are not refused: their types, their columns, and why they have no value.
-use Rattle.std.proofs.Common.{◌≡◌, ◌⊎◌, inl, inr, ℕ, ◌^◌, ◌≤◌, Bool, true, false, not, ◌&&◌, ◌||◌, cond, List, [], ◌∷◌, ◌++◌, Option, Some, None, Result, Ok, Err, option_map, option_and_then, map, arith, max, refl, sym, ◌∙◌, ap, subst}
+use Rattle.std.proofs.Common.{◌≡◌, ◌⊎◌, inl, inr, ℕ, Bool, true, false, not, ◌&&◌, ◌||◌, List, [], ◌∷◌, ◌++◌, Option, Some, None, Result, Ok, Err, option_map, option_and_then, map, arith, max, refl, sym, ◌∙◌, ap, subst}
 use Rattle.std.specs.Prelude.{is_none, is_some}
 use Rattle.std.specs.List.{filter_map, find, flat_map, list_all, list_any}
 use Rattle.std.specs.Option.{option_map_or}
@@ -12,18 +12,16 @@ use Rattle.px_column.specs.Result.{◌>>=◌}
 use Rattle.px_column.specs.Series.{Series}
 use Rattle.px_column.specs.declared.error.PxError.{PxError}
 use Rattle.px_column.specs.declared.error.PxError.TheVariants.{ColumnNotFound, Duplicate, InvalidOperation, ComputeError, OutOfBounds, ShapeMismatch, SchemaMismatch, OutOfMemory}
-use Rattle.px_column.specs.declared.error.ComputeWhy.TheVariants.{AggLiteral, AggScalar, SingleIndex, NoKey, NotPartitionSafe, SliceArgument, NullIndex, RangeBound, WindowLength, ChunkLengths, TooLong, DepthText, Interrupted}
-use Rattle.px_column.specs.declared.method.GroupByMethod.{GroupByMethod}
-use Rattle.px_column.specs.declared.method.GroupByMethod.TheVariants.{Min, Max, Sum, First, Last, NUnique, Count, Implode}
+use Rattle.px_column.specs.declared.error.ComputeWhy.TheVariants.{TooLong}
 use Rattle.px_expr.specs.Built.{is_built_tree, is_sum}
 use Rattle.px_expr.specs.Plan.{plan_in, planned_over}
-use Rattle.px_expr.specs.Planned.{Planned, PlannedColumn, is_added, is_reserved, found_by}
+use Rattle.px_expr.specs.Planned.{Planned, is_reserved}
 use Rattle.px_expr.specs.Value.{IsValue, IsCause, IsOneOf, causes_on, unfound_refusal}
-use Rattle.px_frame.specs.External.{Frame, alone, look_in, scope_of}
+use Rattle.px_frame.specs.External.{Frame, alone, scope_of}
 use Rattle.px_frame.specs.Cell.{Cell}
-use Rattle.px_frame.specs.Frame.{first_repeat, look, name_eq, unless_repeated}
+use Rattle.px_frame.specs.Frame.{first_repeat, look, unless_repeated}
 use Rattle.px_frame.specs.Spread.{NamedCell, assembled, rows_beside, spread_all}
-use Rattle.px_frame.specs.Schema.{FieldKind, column_field, has_field_name, is_field_name}
+use Rattle.px_frame.specs.Schema.{FieldKind, column_field, has_field_name}
 use Rattle.px_plan.specs.Node.{cell_of}
 use Rattle.px_plan.specs.Nodes.{leaf_names}
 use Rattle.px_plan.specs.Shape.{is_unit, name_of}
@@ -36,8 +34,8 @@ use Rattle.px_plan.specs.declared.context.Context.TheVariants.{Default}
 use Rattle.px_steps.specs.DirectLaws.{field-look}
 use Rattle.px_steps.specs.Meets.{MeetsBy, IsFirst}
 use Rattle.px_steps.specs.Finds.{Lacks}
-use Rattle.px_steps.specs.Causes.{IsCauseOfAny, IsSound, IsStepCause, StepAnswers}
-use Rattle.px_steps.specs.Plain.{first_of, first_refusal, frame_refusals, greatest, named_value, misfit_faults, refused_by, repeat_refusal, step_faults, step_on, step_refusals, uneven_fault}
+use Rattle.px_steps.specs.Causes.{IsCauseOfAny, IsStepCause, StepAnswers}
+use Rattle.px_steps.specs.Plain.{first_of, first_refusal, frame_refusals, greatest, named_value, misfit_faults, refused_by, repeat_refusal, step_on, step_refusals, uneven_fault}
 use Rattle.px_steps.specs.Step.{PlainStep, select}
 use Rattle.px_expr.specs.NodeView.{plan_of}
 use Rattle.px_expr.specs.declared.node.PhysExpr.{PhysExpr}
@@ -110,17 +108,15 @@ found_there n cs t = by (look n cs) (find (has_field_name n) (map column_field c
     by (Some s) None e t = cc
     by (Some s) (Some f) e t = ((f, refl), (s, refl))
 
--- what is there is not missing
-not_missing : {A : Type 0} (r : Bool) (o : Option A) (a : A) → o ≡ Some a → (r && is_none o) ≡ false
-not_missing true None a h = cc
-not_missing true (Some b) a h = refl
-not_missing false o a h = refl
+and_false : (b : Bool) → (b && false) ≡ false
+and_false true = refl
+and_false false = refl
 
 -- the node of a name that has a type finds its column
 name_found : (n : List ℕ) (cs : List Series) (e : PxError) → refused_where (is_none (kind_of_name n (map column_field cs))) e ≡ [] → unfound_refusal (alone cs) (record { name = n; schema = map column_field cs }) ≡ []
 name_found n cs e h =
     let t = found_there n cs (name_there (kind_of_name n (map column_field cs)) e h) in
-    let plain : (is_reserved n && is_none (find (has_field_name n) (map column_field cs))) ≡ false = not_missing (is_reserved n) (find (has_field_name n) (map column_field cs)) t.0.0 t.0.1 in
+    let plain : (is_reserved n && is_none (find (has_field_name n) (map column_field cs))) ≡ false = ap (λ o. is_reserved n && is_none o) t.0.1 ∙ and_false (is_reserved n) in
     let there : look n cs ≡ Some t.1.0 = t.1.1 in
     rw (plain, there) refl
 
@@ -132,10 +128,6 @@ leaves_found cs (alias e n) b h = leaves_found cs e b h
 leaves_found cs (agg m e) b h = leaves_found cs e (both (is_sum m) (is_built_tree e) b).1 (inputs_none (refusals_of e (map column_field cs) Default) _ h)
 leaves_found cs len b h = refl
 leaves_found cs _ b h = cc
-
-and_false : (b : Bool) → (b && false) ≡ false
-and_false true = refl
-and_false false = refl
 
 no_misfit : (cs : List Series) (ns : List (List ℕ)) → list_any (is_misfit (alone cs)) ns ≡ false
 no_misfit cs [] = refl

@@ -1,5 +1,5 @@
 -- One more step run.
-use Rattle.std.proofs.Common.{◌≡◌, ◌⊎◌, inl, inr, ℕ, ◌+◌, ◌<◌, ◌^◌, ◌≤◌, true, List, [], ◌∷◌, Option, Some, None, Result, Ok, Err, length, drop, take, ◌-◌, map, get_or, option_and_then, sym, ◌∙◌, ap, subst, arith, refl}
+use Rattle.std.proofs.Common.{◌≡◌, inl, inr, ℕ, ◌+◌, ◌<◌, ◌≤◌, true, List, [], ◌∷◌, Some, None, Result, Ok, Err, length, drop, take, ◌-◌, map, get_or, option_and_then, sym, ◌∙◌, ap, subst, arith, refl}
 use Rattle.std.specs.List.{list_all}
 use Rattle.std.specs.Prelude.{IfOk, IfErr, OnOk}
 use Rattle.std.proofs.lemmas.List.{at_drop_all, at_drop_more, take_all}
@@ -10,7 +10,7 @@ use Rattle.px_column.specs.declared.error.PxError.TheVariants.{OutOfMemory}
 use Rattle.px_expr.specs.Value.{IsOneOf}
 use Rattle.px_frame.specs.External.{Frame, alone}
 use Rattle.px_steps.specs.Built.{is_built}
-use Rattle.px_steps.specs.Causes.{AreSound, IsCauseIn, IsSound, IsStepCause, StandsIn, StepAnswers, StepsAnswer}
+use Rattle.px_steps.specs.Causes.{AreSound, IsCauseIn, IsSound, StandsIn, StepAnswers, StepsAnswer}
 use Rattle.px_steps.specs.Plain.{AreValid, groupings_in, groupings_of, plain_on, step_on}
 use Rattle.px_steps.specs.Step.{PlainStep, step_view}
 use Rattle.px_steps.specs.declared.step.Step.{Step}

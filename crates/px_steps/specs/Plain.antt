@@ -1,7 +1,7 @@
 -- What steps mean on plain frames, why they are refused, and the faults of their values.
 use Rattle.std.specs.Prelude.{◌≡◌, ℕ, ◌^◌, ◌<◌, not, ◌==◌, List, [], ◌∷◌, ◌++◌, Option, Some, None, Result, Ok, Err, map, max, sum, option_map, if◌then◌else◌}
 use Rattle.std.specs.List.{flat_map, filter_map, list_any, sum_by}
-use Rattle.std.specs.Option.{option_map_or, option_or}
+use Rattle.std.specs.Option.{option_map_or}
 use Rattle.std.specs.Result.{result_ok}
 use Rattle.px_column.specs.Datum.{Slot}
 use Rattle.px_column.specs.Kind.{Kind, lists}

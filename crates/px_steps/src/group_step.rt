@@ -1,5 +1,5 @@
 //! A group step: one row for each part of a frame by keys.
-ghost use Rattle.std.specs.Prelude.{◌≡◌, ◌+◌, ◌<◌, ◌++◌, ◌∷◌, [], None, Ok, Some, IfOk, OnOk, length, map, true};
+ghost use Rattle.std.specs.Prelude.{◌≡◌, ◌+◌, ◌<◌, ◌≤◌, ◌++◌, ◌∷◌, [], None, Ok, Some, IfOk, OnOk, length, map, true};
 ghost use Rattle.std.specs.List.{flat_map, list_all};
 ghost use Rattle.px_column.specs.Answer.{Answers};
 ghost use Rattle.px_column.specs.Option.{each};
@@ -255,6 +255,7 @@ pub(crate) fn group_step<L: Ledger, M: Ledger>(
     ensures answer { StepAnswers result (group (map tree keys.now) (map tree aggs.now) None) frame.now }
     ensures state { state.new ≡ state.old }
     ensures grouped { OnOk result (groupings.new ≡ groupings.old + 1) }
+    ensures once { groupings.new ≤ groupings.old + 1 }
 {
     let schema = accepted_scope(alloc, frame, keys, aggs)?;
     let by = key_columns(alloc, frame, keys, &schema, state, kernels, groupings)?;

@@ -1,5 +1,4 @@
 use Rattle.std.proofs.Common.{◌≡◌, Some, drop, map, true, vec_len}
-use Rattle.std.specs.List.{flat_map}
 use Rattle.px_column.specs.Kind.{Kind, slots_fit}
 use Rattle.px_column.specs.Option.{each}
 use Rattle.px_column.specs.View.{slots_of}

@@ -1,6 +1,5 @@
 use Rattle.std.proofs.Common.{Ok, Err, ◌∙◌}
 use Rattle.std.proofs.lemmas.Result.{err_from_is_err_and}
-use Rattle.px_steps.specs.Step.{step_view}
 use Rattle.px_steps.proofs.StepLoop.{built_next, answer_end, answer_next, cause_here, grouped_next}
 use Rattle.px_steps.proofs.runner.run_each.Goals as goal
 
