@@ -9,20 +9,20 @@ use Rattle.px_expr.specs.Built.{is_built_tree, is_sum}
 use Rattle.px_steps.specs.Step.{PlainStep, select, group}
 
 -- a key by its name
-abbrev pub is_built_key : Tree → Bool
-is_built_key (column n) = true
-is_built_key _ = false
+abbrev pub is_direct_key : Tree → Bool
+is_direct_key (column n) = true
+is_direct_key _ = false
 
 -- the sum of a column, or the length
-abbrev pub is_built_agg : Tree → Bool
-is_built_agg (agg m e) = is_sum m && is_built_key e
-is_built_agg len = true
-is_built_agg _ = false
+abbrev pub is_direct_agg : Tree → Bool
+is_direct_agg (agg m e) = is_sum m && is_direct_key e
+is_direct_agg len = true
+is_direct_agg _ = false
 
 -- a group step of such keys and aggregations, without chunks
-abbrev pub is_built_group : PlainStep → Bool
-is_built_group (group keys aggs None) = list_all is_built_key keys && list_all is_built_agg aggs
-is_built_group _ = false
+abbrev pub is_direct_group : PlainStep → Bool
+is_direct_group (group keys aggs None) = list_all is_direct_key keys && list_all is_direct_agg aggs
+is_direct_group _ = false
 
 -- a step that is run: a select step, or a group step without chunks, of expressions that have nodes
 abbrev pub is_built : PlainStep → Bool

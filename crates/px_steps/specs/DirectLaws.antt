@@ -18,7 +18,7 @@ use Rattle.px_frame.specs.Schema.{FieldKind, column_field, has_field_name}
 use Rattle.px_plan.specs.Shape.{name_of}
 use Rattle.px_plan.specs.Tree.{Tree, column, agg, len}
 use Rattle.px_plan.specs.Typing.{kind_of_name, refused_where, fails, not_list}
-use Rattle.px_steps.specs.Built.{is_built_group, is_built_key, is_built_agg}
+use Rattle.px_steps.specs.Built.{is_direct_group, is_direct_key, is_direct_agg}
 use Rattle.px_steps.specs.Direct as direct
 use Rattle.px_steps.specs.Plain as plain
 use Rattle.px_steps.specs.Plain.{first_of, key_values}
@@ -144,11 +144,11 @@ len_same frame parts =
     rw values refl
 
 -- the expressions of a built step
-pub key_is : {Y : Type 0} (f g : Tree → Y) → ((n : List ℕ) → f (column n) ≡ g (column n)) → (t : Tree) → is_built_key t ≡ true → f t ≡ g t
+pub key_is : {Y : Type 0} (f g : Tree → Y) → ((n : List ℕ) → f (column n) ≡ g (column n)) → (t : Tree) → is_direct_key t ≡ true → f t ≡ g t
 key_is f g h (column n) b = h n
 key_is f g h _ b = cc
 
-pub agg_is : {Y : Type 0} (f g : Tree → Y) → ((n : List ℕ) → f (agg Sum (column n)) ≡ g (agg Sum (column n))) → f len ≡ g len → (t : Tree) → is_built_agg t ≡ true → f t ≡ g t
+pub agg_is : {Y : Type 0} (f g : Tree → Y) → ((n : List ℕ) → f (agg Sum (column n)) ≡ g (agg Sum (column n))) → f len ≡ g len → (t : Tree) → is_direct_agg t ≡ true → f t ≡ g t
 agg_is f g h l (agg Sum (column n)) b = h n
 agg_is f g h l len b = l
 agg_is f g h l _ b = cc
@@ -186,13 +186,13 @@ repeat_same None = refl
 repeat_same (Some n) = refl
 
 -- the first refusal of such a step
-pub refusal_same : (s : PlainStep) (frame : List Series) → is_built_group s ≡ true → plain.first_refusal s (alone frame) ≡ first_of (direct.step_refusals s frame)
+pub refusal_same : (s : PlainStep) (frame : List Series) → is_direct_group s ≡ true → plain.first_refusal s (alone frame) ≡ first_of (direct.step_refusals s frame)
 refusal_same (group keys aggs None) frame b =
-    let built = all_and (list_all is_built_key keys) (list_all is_built_agg aggs) b in
+    let built = all_and (list_all is_direct_key keys) (list_all is_direct_agg aggs) b in
     let k : flat_map (plain.key_refusals (alone frame)) keys ≡ flat_map (direct.key_refusals frame) keys
-    = flat_same is_built_key _ _ keys (key_is (plain.key_refusals (alone frame)) (direct.key_refusals frame) (λ n. key_refused n frame)) built.0 in
+    = flat_same is_direct_key _ _ keys (key_is (plain.key_refusals (alone frame)) (direct.key_refusals frame) (λ n. key_refused n frame)) built.0 in
     let a : flat_map (plain.agg_refusals (alone frame)) aggs ≡ flat_map (direct.agg_refusals frame) aggs
-    = flat_same is_built_agg _ _ aggs (agg_is (plain.agg_refusals (alone frame)) (direct.agg_refusals frame) (λ n. sum_refused n frame) refl) built.1 in
+    = flat_same is_direct_agg _ _ aggs (agg_is (plain.agg_refusals (alone frame)) (direct.agg_refusals frame) (λ n. sum_refused n frame) refl) built.1 in
     let r : plain.repeat_refusal (keys ++ aggs) ≡ direct.repeat_refusal (first_repeat [] (map name_of keys ++ map name_of aggs))
     = ap (λ ns. option_map_or (λ n. Duplicate n ∷ []) (first_repeat [] ns) []) (map-append name_of keys aggs) ∙ repeat_same (first_repeat [] (map name_of keys ++ map name_of aggs)) in
     let K = flat_map (direct.key_refusals frame) keys in
@@ -212,18 +212,18 @@ front_same front None = refl
 front_same front (Some ys) = refl
 
 -- the columns that such a step makes of a frame
-pub columns_same : (s : PlainStep) (frame : List Series) → is_built_group s ≡ true → IsFrame frame → plain.columns_made s (alone frame) ≡ direct.step_on s frame
+pub columns_same : (s : PlainStep) (frame : List Series) → is_direct_group s ≡ true → IsFrame frame → plain.columns_made s (alone frame) ≡ direct.step_on s frame
 columns_same (group keys aggs None) frame b is =
-    let built = all_and (list_all is_built_key keys) (list_all is_built_agg aggs) b in
+    let built = all_and (list_all is_direct_key keys) (list_all is_direct_agg aggs) b in
     let k : each (plain.key_on (alone frame)) keys ≡ each (direct.key_on frame) keys
-    = each_same is_built_key _ _ keys (key_is (plain.key_on (alone frame)) (direct.key_on frame) (λ n. key_same n frame is)) built.0 in
+    = each_same is_direct_key _ _ keys (key_is (plain.key_on (alone frame)) (direct.key_on frame) (λ n. key_same n frame is)) built.0 in
     rw k (by built.1 (each (direct.key_on frame) keys))
   where
-    by : list_all is_built_agg aggs ≡ true → (o : Option (List Series)) → (o >>= plain.columns_on (alone frame) aggs) ≡ option_and_then (λ keyed. direct.columns_on frame keyed aggs) o
+    by : list_all is_direct_agg aggs ≡ true → (o : Option (List Series)) → (o >>= plain.columns_on (alone frame) aggs) ≡ option_and_then (λ keyed. direct.columns_on frame keyed aggs) o
     by h None = refl
     by h (Some keyed) =
         let ps = parts_of keyed (height_of frame) in
         let a : each (plain.aggregated_on (alone frame) ps) aggs ≡ each (direct.aggregated_on frame ps) aggs
-        = each_same is_built_agg _ _ aggs (agg_is (plain.aggregated_on (alone frame) ps) (direct.aggregated_on frame ps) (λ n. sum_same n frame ps) (len_same frame ps)) h in
+        = each_same is_direct_agg _ _ aggs (agg_is (plain.aggregated_on (alone frame) ps) (direct.aggregated_on frame ps) (λ n. sum_same n frame ps) (len_same frame ps)) h in
         rw a (front_same (map (key_values ps) keyed) (each (direct.aggregated_on frame ps) aggs))
 columns_same _ frame b is = cc

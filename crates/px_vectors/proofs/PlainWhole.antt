@@ -7,7 +7,7 @@ use Rattle.px_column.specs.declared.error.PxError.TheVariants.{ColumnNotFound, D
 use Rattle.px_frame.specs.External.{alone}
 use Rattle.px_frame.specs.Frame.{IsFrame}
 use Rattle.px_plan.specs.Tree.{column}
-use Rattle.px_steps.specs.Built.{is_built_group, is_built_key, is_built_agg}
+use Rattle.px_steps.specs.Built.{is_direct_group, is_direct_key, is_direct_agg}
 use Rattle.px_steps.specs.Direct as direct
 use Rattle.px_steps.specs.DirectLaws.{refusal_same, columns_same}
 use Rattle.px_steps.specs.Meets.{Meets}
@@ -17,16 +17,16 @@ use Rattle.px_vectors.specs.PlainStep.{step_by, tree_of}
 use Rattle.px_vectors.specs.declared.plain_step.Aggregation.{Aggregation}
 use Rattle.px_vectors.specs.declared.plain_step.Aggregation.TheVariants.{Sum, Len}
 
-keys_built : (keys : List (List ℕ)) → list_all is_built_key (map column keys) ≡ true
+keys_built : (keys : List (List ℕ)) → list_all is_direct_key (map column keys) ≡ true
 keys_built [] = refl
 keys_built (k ∷ keys) = keys_built keys
 
-aggs_built : (aggs : List Aggregation) → list_all is_built_agg (map tree_of aggs) ≡ true
+aggs_built : (aggs : List Aggregation) → list_all is_direct_agg (map tree_of aggs) ≡ true
 aggs_built [] = refl
 aggs_built (Sum n ∷ aggs) = aggs_built aggs
 aggs_built (Len ∷ aggs) = aggs_built aggs
 
-step_built : (keys : List (List ℕ)) (aggs : List Aggregation) → is_built_group (step_by keys aggs) ≡ true
+step_built : (keys : List (List ℕ)) (aggs : List Aggregation) → is_direct_group (step_by keys aggs) ≡ true
 step_built keys aggs = λ i. keys_built keys i && aggs_built aggs i
 
 none_first : (es : List PxError) → first_of es ≡ None → es ≡ []
