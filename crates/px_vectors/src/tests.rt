@@ -11,8 +11,9 @@ use std::marker::Brand;
 use std::sync::ledger::{Blank, Ledger};
 use std::test::Fail;
 
-mod selects;
+mod generated;
 mod steps;
+mod tables;
 
 /// The next number of a linear congruential generator, below the bound.
 fn next(state: &mut u64, bound: u32) -> u32
