@@ -5,9 +5,9 @@ use Rattle.std.specs.List.{list_any}
 use Rattle.std.proofs.lemmas.List.{length_push}
 use Rattle.std.proofs.lemmas.List.Sums.{sum_by-cons}
 use Rattle.px_column.specs.Column.{null_count}
-use Rattle.px_column.specs.Datum.{Slot}
-use Rattle.px_column.specs.Equality.{slot_eq}
-use Rattle.px_column.specs.Reduction.{with_slot, distinct_slots}
+use Rattle.px_value.specs.Datum.{Slot}
+use Rattle.px_value.specs.Equality.{slot_eq}
+use Rattle.px_operation.specs.Reduction.{with_slot, distinct_slots}
 
 pub counted : (xs : List Slot) → count_by is_some xs + null_count xs ≡ length xs
 counted [] = refl

@@ -2,10 +2,10 @@
 use Rattle.std.proofs.Common.{◌≡◌, ◌∙◌, ℕ, ◌+◌, ◌<◌, ◌&&◌, ◌||◌, Bool, true, false, cond, List, [], ◌∷◌, ◌++◌, Some, None, length, map, take, refl, ap, sym}
 use Rattle.std.specs.List.{list_any}
 use Rattle.std.proofs.lemmas.List.{map_push}
-use Rattle.px_column.specs.Datum.{Slot}
-use Rattle.px_column.specs.Equality.{datum_eq, slot_eq, row_eq}
-use Rattle.px_column.specs.Reduction.{with_slot, distinct_slots}
-use Rattle.px_column.specs.Series.{slot_at}
+use Rattle.px_value.specs.Datum.{Slot}
+use Rattle.px_value.specs.Equality.{datum_eq, slot_eq, row_eq}
+use Rattle.px_operation.specs.Reduction.{with_slot, distinct_slots}
+use Rattle.px_value.specs.Series.{slot_at}
 use Rattle.px_column.proofs.Taking.{fold_row}
 
 -- the row of one column

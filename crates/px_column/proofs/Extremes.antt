@@ -1,8 +1,8 @@
 -- The best of the present values, row by row.
 use Rattle.std.proofs.Common.{◌≡◌, List, [], ◌∷◌, Some, None, fold, refl}
 use Rattle.std.specs.List.{reduce}
-use Rattle.px_column.specs.Datum.{Datum, Slot}
-use Rattle.px_column.specs.Reduction.{better, values_of}
+use Rattle.px_value.specs.Datum.{Datum, Slot}
+use Rattle.px_operation.specs.Reduction.{better, values_of}
 
 better_from : (f : Datum → Datum → Datum) (a : Datum) (xs : List Slot) → fold (better f) (Some a) xs ≡ Some (fold f a (values_of xs))
 better_from f a [] = refl

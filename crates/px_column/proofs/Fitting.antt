@@ -1,19 +1,11 @@
 -- What is read of places that fit a type fits it.
 use Rattle.std.proofs.Common.{◌≡◌, ℕ, zero, suc, ◌<◌, ◌^◌, Bool, true, false, ◌&&◌, List, [], ◌∷◌, Option, Some, None, length, map, replicate, refl, subst, sym}
 use Rattle.std.proofs.lemmas.List.{length-map}
-use Rattle.px_column.specs.Datum.{Slot}
-use Rattle.px_column.specs.Kind.{Kind, slot_fits, slots_fit}
-use Rattle.px_column.specs.Series.{slot_at, IsColumn}
+use Rattle.px_value.specs.Datum.{Slot}
+use Rattle.px_value.specs.Kind.{Kind, slot_fits, slots_fit}
+use Rattle.px_value.specs.Series.{slot_at, IsColumn}
 use Rattle.px_column.specs.Column.{taken_at}
-
-pub both : (a b : Bool) → (a && b) ≡ true → (a ≡ true) × (b ≡ true)
-both true b h = (refl, h)
-both false b h = cc
-
-pub fits_at : (k : Kind) (xs : List Slot) (i : ℕ) → slots_fit k xs ≡ true → slot_fits k (slot_at xs i) ≡ true
-fits_at k [] i h = refl
-fits_at k (x ∷ xs) zero h = (both (slot_fits k x) (slots_fit k xs) h).0
-fits_at k (x ∷ xs) (suc i) h = fits_at k xs i (both (slot_fits k x) (slots_fit k xs) h).1
+use Rattle.px_value.specs.FitLaws.{fits_at}
 
 fits_taken_at : (k : Kind) (xs : List Slot) (i : Option ℕ) → slots_fit k xs ≡ true → slot_fits k (taken_at xs i) ≡ true
 fits_taken_at k xs None h = refl

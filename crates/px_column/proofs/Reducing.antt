@@ -3,19 +3,19 @@ use Rattle.std.proofs.Common.{◌≡◌, ℕ, ◌^◌, ◌<◌, ◌&&◌, Bool, 
 use Rattle.std.specs.List.{reduce}
 use Rattle.std.specs.Ordering.{is_lt, ord_min, ord_max}
 use Rattle.std.proofs.lemmas.Bool.Decides.{nat_tests}
-use Rattle.px_column.specs.Datum.{Datum, Slot, slots}
-use Rattle.px_column.specs.Kind.{Kind, booleans, int8s, int16s, int32s, int64s, uint8s, uint16s, uint32s, uint64s, strings, binaries, nulls, lists, is_list_kind, fits, all_fit, slot_fits, slots_fit}
-use Rattle.px_column.specs.Operator.{is_integer_kind}
-use Rattle.px_column.specs.Order.{datum_cmp}
-use Rattle.px_column.specs.Reduction.{values_of, kind_there, reduced_kind, reduced_slot, sum_slot, count_slot}
-use Rattle.px_column.specs.Series.{IsColumn}
-use Rattle.px_column.specs.Sum.{sum_kind, total}
-use Rattle.px_column.specs.declared.error.PxError.{PxError}
-use Rattle.px_column.specs.declared.method.GroupByMethod.{GroupByMethod}
-use Rattle.px_column.specs.declared.method.GroupByMethod.TheVariants.{Min, Max, Sum, First, Last, NUnique, Count, Implode}
+use Rattle.px_value.specs.Datum.{Datum, Slot, slots}
+use Rattle.px_value.specs.Kind.{Kind, booleans, int8s, int16s, int32s, int64s, uint8s, uint16s, uint32s, uint64s, strings, binaries, nulls, lists, is_list_kind, fits, all_fit, slot_fits, slots_fit}
+use Rattle.px_operation.specs.Operator.{is_integer_kind}
+use Rattle.px_value.specs.Order.{datum_cmp}
+use Rattle.px_operation.specs.Reduction.{values_of, kind_there, reduced_kind, reduced_slot, sum_slot, count_slot}
+use Rattle.px_value.specs.Series.{IsColumn}
+use Rattle.px_operation.specs.Sum.{sum_kind, total}
+use Rattle.px_value.specs.declared.error.PxError.{PxError}
+use Rattle.px_value.specs.declared.method.GroupByMethod.{GroupByMethod}
+use Rattle.px_value.specs.declared.method.GroupByMethod.TheVariants.{Min, Max, Sum, First, Last, NUnique, Count, Implode}
 use Rattle.px_column.proofs.Counting.{counted, distinct_count_le}
-use Rattle.px_column.proofs.Fitting.{both, fits_at}
-use Rattle.px_column.proofs.Wrapping.{fits_wrapped}
+use Rattle.px_value.specs.FitLaws.{both, fits_at}
+use Rattle.px_operation.specs.WrapLaws.{fits_wrapped}
 
 -- a choice of two values
 abbrev Chooses : (Datum → Datum → Datum) → Type 0

@@ -2,11 +2,11 @@
 use Rattle.std.proofs.Common.{◌≡◌, ℕ, ◌+◌, ◌^◌, ◌<◌, ◌≤◌, ℤ, pos, negsuc, ◌+ℤ◌, true, List, [], ◌∷◌, ◌++◌, Some, None, map, fold, take, length, ◌∙◌, ap, arith}
 use Rattle.std.proofs.lemmas.Bool.Decides.{nat_tests}
 use Rattle.std.proofs.lemmas.Int.{ints}
-use Rattle.px_column.specs.Datum.{boolean, integer, text, bytes, list, Slot}
-use Rattle.px_column.specs.Kind.{Kind, booleans, int8s, int16s, int32s, int64s, uint8s, uint16s, uint32s, uint64s, strings, binaries, nulls, lists, slot_fits, is_signed, is_unsigned}
+use Rattle.px_value.specs.Datum.{boolean, integer, text, bytes, list, Slot}
+use Rattle.px_value.specs.Kind.{Kind, booleans, int8s, int16s, int32s, int64s, uint8s, uint16s, uint32s, uint64s, strings, binaries, nulls, lists, slot_fits, is_signed, is_unsigned}
 use Rattle.px_column.proofs.Taking.{take_row}
-use Rattle.px_column.specs.Series.{slot_at}
-use Rattle.px_column.specs.Sum.{number_of, total, IsWithin}
+use Rattle.px_value.specs.Series.{slot_at}
+use Rattle.px_operation.specs.Sum.{number_of, total, IsWithin}
 use Rattle.std.proofs.lemmas.List.{map_push}
 use Rattle.std.proofs.lemmas.Grind.{fold-append}
 

@@ -1,8 +1,8 @@
 -- One more row of a list.
 use Rattle.std.proofs.Common.{◌≡◌, ℕ, zero, suc, ◌+◌, ◌<◌, List, [], ◌∷◌, ◌++◌, length, take, fold, refl, ◌∙◌, ap, arith, add-one}
 use Rattle.std.proofs.lemmas.Grind.{fold-append}
-use Rattle.px_column.specs.Datum.{Slot}
-use Rattle.px_column.specs.Series.{slot_at}
+use Rattle.px_value.specs.Datum.{Slot}
+use Rattle.px_value.specs.Series.{slot_at}
 
 take_suc : (xs : List Slot) (i : ℕ) → i < length xs → take (suc i) xs ≡ take i xs ++ slot_at xs i ∷ []
 take_suc [] i h = absurd (omega (arith, h))

@@ -1,12 +1,12 @@
 -- What the calls of a column answer.
 use Rattle.std.specs.Prelude.{ℕ, Bool, true, List, Option, Some, None, Result, Ok, Err, length, map, nat_lt, if◌then◌else◌, is_none, count_by}
 use Rattle.std.specs.List.{list_all}
-use Rattle.px_column.specs.Datum.{Slot}
-use Rattle.px_column.specs.Kind.{Kind, slots_fit}
-use Rattle.px_column.specs.Series.{Series, slot_at}
-use Rattle.px_column.specs.declared.error.PxError.{PxError}
-use Rattle.px_column.specs.declared.error.PxError.TheVariants.{InvalidOperation, OutOfBounds}
-use Rattle.px_column.specs.declared.error.InvalidWhy.TheVariants.{Types}
+use Rattle.px_value.specs.Datum.{Slot}
+use Rattle.px_value.specs.Kind.{Kind, slots_fit}
+use Rattle.px_value.specs.Series.{Series, slot_at}
+use Rattle.px_value.specs.declared.error.PxError.{PxError}
+use Rattle.px_value.specs.declared.error.PxError.TheVariants.{InvalidOperation, OutOfBounds}
+use Rattle.px_value.specs.declared.error.InvalidWhy.TheVariants.{Types}
 
 -- a column of these places, where each fits the type
 abbrev pub made : List ℕ → Kind → List Slot → Result Series PxError

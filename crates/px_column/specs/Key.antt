@@ -1,8 +1,8 @@
 -- The key of a row: what some columns hold there.
 use Rattle.std.specs.Prelude.{ℕ, List, map}
 use Rattle.std.specs.List.{range_with_len}
-use Rattle.px_column.specs.Datum.{Slot}
-use Rattle.px_column.specs.Series.{Series, slot_at}
+use Rattle.px_value.specs.Datum.{Slot}
+use Rattle.px_value.specs.Series.{Series, slot_at}
 
 -- what the columns hold at a row
 abbrev pub key_at : List Series → ℕ → List Slot

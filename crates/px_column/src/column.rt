@@ -1,18 +1,16 @@
 //! A column: a name, a type and a list of optional values that fit it.
 ghost use Rattle.std.specs.Prelude.{◌≡◌, ◌<◌, ◌≤◌, ◌==◌, ◌^◌, Ok, length, map, vec_len, true};
-ghost use Rattle.px_column.specs.Answer.{Answers, AnswersBy};
+ghost use Rattle.px_value.specs.Answer.{Answers, AnswersBy};
 ghost use Rattle.px_column.specs.Column.{made, taken, taken_at, is_within, all_within, null_count};
-ghost use Rattle.px_column.specs.Kind.{slots_fit, slot_fits};
-ghost use Rattle.px_column.specs.KindView.{kind_of};
-ghost use Rattle.px_column.specs.LentView.{slot_of_ref};
-ghost use Rattle.px_column.specs.Series.{IsColumn, slot_at};
-ghost use Rattle.px_column.specs.View.{slot_of, slots_of};
+ghost use Rattle.px_value.specs.Kind.{slots_fit, slot_fits};
+ghost use Rattle.px_value.specs.KindView.{kind_of};
+ghost use Rattle.px_value.specs.LentView.{slot_of_ref};
+ghost use Rattle.px_value.specs.Series.{IsColumn, slot_at};
+ghost use Rattle.px_value.specs.View.{slot_of, slots_of};
 
-use crate::data_type::DataType;
-use crate::error::{InvalidWhy, Px, PxError};
-use crate::name::Name;
-use crate::value::Value;
-use crate::value_ref::{ValueRef, copy_slot, lend, slot_fits};
+use px_value::{
+    DataType, InvalidWhy, Name, Px, PxError, Value, ValueRef, copy_slot, copy_slots, lend, slot_fits,
+};
 use std::alloc::Global;
 use std::marker::Model;
 
@@ -25,14 +23,14 @@ pub struct Column {
 }
 
 impl Model for Column {
-    ghost use Rattle.px_column.specs.Series.{Series, IsColumn, coded_series};
+    ghost use Rattle.px_value.specs.Series.{Series, IsColumn, coded_series};
 
     ghost Value = { Series };
 
     ghost coded = { coded_series };
 
-    ghost use Rattle.px_column.specs.View.{slots_of};
-    ghost use Rattle.px_column.specs.KindView.{kind_of};
+    ghost use Rattle.px_value.specs.View.{slots_of};
+    ghost use Rattle.px_value.specs.KindView.{kind_of};
 
     ghost view = { λ c. record { name = c.name; kind = kind_of c.dtype; slots = slots_of c.rows.items } };
 
@@ -83,16 +81,6 @@ fn are_within(len: usize, indices: &[Option<u32>]) -> bool
         }
     }
     true
-}
-
-pub(crate) fn copy_slots(alloc: Global, rows: &[Option<Value>]) -> Px<Vec<Option<Value>>>
-    ensures { AnswersBy (λ v. slots_of v.items) result (Ok (slots_of rows.now)) }
-{
-    let mut copies = Vec::with_capacity(alloc, rows.len())?;
-    for row in rows {
-        copies.push(copy_slot(alloc, lend(row))?)?;
-    }
-    Ok(copies)
 }
 
 fn take_slot(alloc: Global, rows: &[Option<Value>], index: Option<u32>) -> Px<Option<Value>>

@@ -4,4 +4,4 @@ mod distinct;
 mod extremes;
 mod reduce;
 mod sort;
-pub mod sum;
+mod sum;

@@ -1,19 +1,15 @@
 //! Columns that hold the same at each row.
 ghost use Rattle.std.specs.Prelude.{◌≡◌, ◌<◌, Ok, Some, None, length, replicate, true};
-ghost use Rattle.px_column.specs.Answer.{Answers, AnswersBy};
-ghost use Rattle.px_column.specs.Kind.{fits, slot_fits};
-ghost use Rattle.px_column.specs.KindView.{kind_of};
-ghost use Rattle.px_column.specs.LentView.{slot_of_ref};
+ghost use Rattle.px_value.specs.Answer.{Answers, AnswersBy};
+ghost use Rattle.px_value.specs.Kind.{fits, slot_fits};
+ghost use Rattle.px_value.specs.KindView.{kind_of};
+ghost use Rattle.px_value.specs.LentView.{slot_of_ref};
 ghost use Rattle.px_column.specs.Repeat.{repeated};
-ghost use Rattle.px_column.specs.Series.{slot_at};
-ghost use Rattle.px_column.specs.View.{datum_of, slots_of};
+ghost use Rattle.px_value.specs.Series.{slot_at};
+ghost use Rattle.px_value.specs.View.{datum_of, slots_of};
 
 use crate::column::Column;
-use crate::data_type::DataType;
-use crate::error::Px;
-use crate::name::Name;
-use crate::value::Value;
-use crate::value_ref::{ValueRef, copy_slot};
+use px_value::{DataType, Name, Px, Value, ValueRef, copy_slot};
 use std::alloc::Global;
 
 fn copies(alloc: Global, slot: Option<ValueRef<'_>>, len: u32) -> Px<Vec<Option<Value>>>

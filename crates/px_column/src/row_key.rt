@@ -1,11 +1,11 @@
 //! A row of some columns, as the key of a table: equal where the columns hold the same.
 ghost use Rattle.std.specs.Prelude.{◌≡◌, fold};
-ghost use Rattle.px_column.specs.Equality.{row_eq};
-ghost use Rattle.px_column.specs.Hashing.{row_hash};
+ghost use Rattle.px_value.specs.Equality.{row_eq};
+ghost use Rattle.px_value.specs.Hashing.{row_hash};
 ghost use Rattle.px_column.specs.Key.{key_at};
 
 use crate::column::Column;
-use crate::value_ref::{hash_slot, same_slot};
+use px_value::{hash_slot, same_slot};
 use std::hash::{Hash, Hasher};
 use std::marker::Model;
 
@@ -18,8 +18,8 @@ pub struct RowKey<'a> {
 
 impl<'a> Model for RowKey<'a> {
     ghost use Rattle.std.specs.Prelude.{List};
-    ghost use Rattle.px_column.specs.Datum.{Slot};
-    ghost use Rattle.px_column.specs.DatumCode.{coded_slots};
+    ghost use Rattle.px_value.specs.Datum.{Slot};
+    ghost use Rattle.px_value.specs.DatumCode.{coded_slots};
 
     ghost Value = { List Slot };
 
@@ -68,8 +68,8 @@ fn hash_row<H: Hasher>(by: &[Column], row: u32, state: &mut H)
 
 impl PartialEq for RowKey<'_> {
     ghost use Rattle.std.specs.Cmp as laws;
-    ghost use Rattle.px_column.specs.Equality.{row_eq};
-    ghost use Rattle.px_column.specs.Decided.{IsEquivalence-decides, row_decides};
+    ghost use Rattle.px_value.specs.Equality.{row_eq};
+    ghost use Rattle.px_value.specs.Decided.{IsEquivalence-decides, row_decides};
 
     ghost eq = { row_eq };
 
@@ -81,15 +81,15 @@ impl PartialEq for RowKey<'_> {
 }
 
 impl Eq for RowKey<'_> {
-    ghost use Rattle.px_column.specs.Decided.{IsEquivalence-decides, row_decides};
+    ghost use Rattle.px_value.specs.Decided.{IsEquivalence-decides, row_decides};
 
     ghost laws = { IsEquivalence-decides row_decides };
 }
 
 impl Hash for RowKey<'_> {
     ghost use Rattle.std.specs.Hash as fed;
-    ghost use Rattle.px_column.specs.Hashing.{row_hash};
-    ghost use Rattle.px_column.specs.Decided.{row_decides};
+    ghost use Rattle.px_value.specs.Hashing.{row_hash};
+    ghost use Rattle.px_value.specs.Decided.{row_decides};
 
     ghost hash_input = { row_hash };
 

@@ -2,14 +2,14 @@
 use Rattle.std.proofs.Common.{◌≡◌, ℕ, ◌+◌, ◌≤◌, ◌^◌, ℤ, pos, ◌+ℤ◌, ◌-ℤ◌, Bool, true, false, cond, not, ◌&&◌, nat_lt, List, [], ◌∷◌, ◌++◌, Option, Some, None, Result, Ok, Err, IfErr, length, inl, inr, refl, sym, ◌∙◌, ap, arith}
 use Rattle.std.proofs.lemmas.Bool.Decides.{nat_tests}
 use Rattle.std.proofs.lemmas.List.FromFn.{length-map-range_with_len}
-use Rattle.px_column.specs.Answer.{Answers}
-use Rattle.px_column.specs.Datum.{integer}
-use Rattle.px_column.specs.Kind.{Kind, fits}
-use Rattle.px_column.specs.Series.{Series}
-use Rattle.px_column.specs.declared.error.PxError.{PxError}
-use Rattle.px_column.specs.declared.error.PxError.TheVariants.{ColumnNotFound, Duplicate, InvalidOperation, ComputeError, OutOfBounds, ShapeMismatch, SchemaMismatch, OutOfMemory}
-use Rattle.px_column.specs.declared.error.InvalidWhy.TheVariants.{RangeType}
-use Rattle.px_column.specs.declared.error.ComputeWhy.TheVariants.{RangeBound, TooLong}
+use Rattle.px_value.specs.Answer.{Answers}
+use Rattle.px_value.specs.Datum.{integer}
+use Rattle.px_value.specs.Kind.{Kind, fits}
+use Rattle.px_value.specs.Series.{Series}
+use Rattle.px_value.specs.declared.error.PxError.{PxError}
+use Rattle.px_value.specs.declared.error.PxError.TheVariants.{ColumnNotFound, Duplicate, InvalidOperation, ComputeError, OutOfBounds, ShapeMismatch, SchemaMismatch, OutOfMemory}
+use Rattle.px_value.specs.declared.error.InvalidWhy.TheVariants.{RangeType}
+use Rattle.px_value.specs.declared.error.ComputeWhy.TheVariants.{RangeBound, TooLong}
 use Rattle.px_frame.specs.External.{Frame}
 use Rattle.px_plan.specs.Node.{natural}
 use Rattle.px_plan.specs.Size.{size_on}

@@ -1,7 +1,7 @@
 -- The kinds of expressions that have nodes.
 use Rattle.std.specs.Prelude.{Bool, true, false, ◌&&◌}
-use Rattle.px_column.specs.declared.method.GroupByMethod.{GroupByMethod}
-use Rattle.px_column.specs.declared.method.GroupByMethod.TheVariants.{Sum}
+use Rattle.px_value.specs.declared.method.GroupByMethod.{GroupByMethod}
+use Rattle.px_value.specs.declared.method.GroupByMethod.TheVariants.{Sum}
 use Rattle.px_plan.specs.Tree.{Tree, column, literal, alias, agg, len}
 
 -- whether a reduction is the sum

@@ -1,10 +1,10 @@
 -- How deep an expression is, whether a window stands in it, and the limit that a text sets.
 use Rattle.std.specs.Prelude.{ℕ, zero, suc, ◌+◌, ◌^◌, Bool, true, false, ◌||◌, max, nat_le, nat_lt, List, Option, Some, None, Result, Ok, Err, if◌then◌else◌}
 use Rattle.std.specs.Str.Parse.{without_leading_plus}
-use Rattle.px_column.specs.Cast.{natural_of}
-use Rattle.px_column.specs.declared.error.PxError.{PxError}
-use Rattle.px_column.specs.declared.error.PxError.TheVariants.{ComputeError}
-use Rattle.px_column.specs.declared.error.ComputeWhy.TheVariants.{DepthText}
+use Rattle.px_operation.specs.Cast.{natural_of}
+use Rattle.px_value.specs.declared.error.PxError.{PxError}
+use Rattle.px_value.specs.declared.error.PxError.TheVariants.{ComputeError}
+use Rattle.px_value.specs.declared.error.ComputeWhy.TheVariants.{DepthText}
 use Rattle.px_plan.specs.Tree.{Tree, Trees, Order, no_trees, one_tree, no_order, ordered, column, literal, alias, binary, ternary, cast, function, filter, slice, gather, sort, sort_by, agg, len, window}
 
 -- the greatest number of nodes on a path from an expression to one of its leaves

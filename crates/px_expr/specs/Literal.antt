@@ -1,12 +1,12 @@
 -- The columns of literals.
 use Rattle.std.specs.Prelude.{ℕ, ◌^◌, ℤ, ◌-ℤ◌, ◌&&◌, nat_lt, codes, List, [], ◌∷◌, Option, Some, None, Result, Ok, Err, if◌then◌else◌}
-use Rattle.px_column.specs.Datum.{integer}
-use Rattle.px_column.specs.Kind.{Kind, fits}
-use Rattle.px_column.specs.Series.{Series}
-use Rattle.px_column.specs.declared.error.PxError.{PxError}
-use Rattle.px_column.specs.declared.error.PxError.TheVariants.{InvalidOperation, ComputeError}
-use Rattle.px_column.specs.declared.error.InvalidWhy.TheVariants.{RangeType}
-use Rattle.px_column.specs.declared.error.ComputeWhy.TheVariants.{RangeBound, TooLong}
+use Rattle.px_value.specs.Datum.{integer}
+use Rattle.px_value.specs.Kind.{Kind, fits}
+use Rattle.px_value.specs.Series.{Series}
+use Rattle.px_value.specs.declared.error.PxError.{PxError}
+use Rattle.px_value.specs.declared.error.PxError.TheVariants.{InvalidOperation, ComputeError}
+use Rattle.px_value.specs.declared.error.InvalidWhy.TheVariants.{RangeType}
+use Rattle.px_value.specs.declared.error.ComputeWhy.TheVariants.{RangeBound, TooLong}
 use Rattle.px_plan.specs.Node.{integers, natural}
 use Rattle.px_plan.specs.Tree.{Literal, single, range, series}
 use Rattle.px_plan.specs.Typing.{is_range_kind}

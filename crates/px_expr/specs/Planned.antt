@@ -2,9 +2,9 @@
 use Rattle.std.specs.Prelude.{ℕ, Bool, ◌&&◌, List, Option, length, take, drop, codes, find, is_none, if◌then◌else◌, refl}
 use Rattle.std.specs.Str.{bytes_eq}
 use Rattle.std.specs.Coded.{Coded, code_by, coded×, coded_list, coded_ℕ, coded_option}
-use Rattle.px_column.specs.Series.{Series}
-use Rattle.px_column.specs.declared.method.GroupByMethod.{GroupByMethod}
-use Rattle.px_column.specs.contracts.method.GroupByMethod as method
+use Rattle.px_value.specs.Series.{Series}
+use Rattle.px_value.specs.declared.method.GroupByMethod.{GroupByMethod}
+use Rattle.px_value.specs.contracts.method.GroupByMethod as method
 use Rattle.px_frame.specs.External.{Frame, look_in}
 use Rattle.px_frame.specs.Frame.{look}
 use Rattle.px_frame.specs.Schema.{FieldKind, coded_field, has_field_name}

@@ -2,7 +2,7 @@
 use crate::node::AggregationExpr;
 use crate::physical::PhysicalExpr;
 use indexmap::IndexSet;
-use px_column::{Column, GroupByMethod, Name, Px, Steps};
+use px_column::{Column, GroupByMethod, Name, Px, Steps, reduced_type};
 use px_frame::{DataFrame, Field, Schema};
 use px_plan::Expr;
 use px_window::ExecutionState;
@@ -43,7 +43,7 @@ impl PhysicalExpr for AggregationExpr {
     #[cycle(field)]
     fn to_field(&self, alloc: Global, input_schema: &Schema) -> Px<Field> {
         let field = self.expr.to_field(alloc, input_schema)?;
-        let dtype = field.dtype.reduced_type(alloc, self.agg_type.groupby)?;
+        let dtype = reduced_type(alloc, self.agg_type.groupby, field.dtype)?;
         let name = field.name;
         Ok(Field { name, dtype })
     }

@@ -1,9 +1,9 @@
 //! Literals.
 ghost use Rattle.std.specs.Prelude.{◌≡◌, Ok, Some, true};
-ghost use Rattle.px_column.specs.Answer.{Answers};
-ghost use Rattle.px_column.specs.Kind.{fits};
-ghost use Rattle.px_column.specs.KindView.{kind_of};
-ghost use Rattle.px_column.specs.View.{datum_of};
+ghost use Rattle.px_value.specs.Answer.{Answers};
+ghost use Rattle.px_value.specs.Kind.{fits};
+ghost use Rattle.px_value.specs.KindView.{kind_of};
+ghost use Rattle.px_value.specs.View.{datum_of};
 ghost use Rattle.px_plan.specs.Tree.{single};
 ghost use Rattle.px_plan.specs.View.{literal_of};
 ghost use Rattle.px_expr.specs.Literal.{kept_column, literal_column};

@@ -1,8 +1,8 @@
 //! From expressions in an arena to nodes.
 ghost use Rattle.std.specs.Prelude.{◌≡◌, ◌<◌, true, [], length, map, Ok, IfErr, OnOk, OnErr};
 ghost use Rattle.std.specs.List.{All};
-ghost use Rattle.px_column.specs.Answer.{AnswersBy};
-ghost use Rattle.px_column.specs.declared.method.GroupByMethod.TheVariants.{Sum};
+ghost use Rattle.px_value.specs.Answer.{AnswersBy};
+ghost use Rattle.px_value.specs.declared.method.GroupByMethod.TheVariants.{Sum};
 ghost use Rattle.px_plan.specs.Arena.{tree_at};
 ghost use Rattle.px_plan.specs.Tree.{column, literal, alias, agg};
 ghost use Rattle.px_plan.specs.View.{tree, literal_of};

@@ -1,10 +1,10 @@
 -- Rows that are made one for each group.
 use Rattle.std.proofs.Common.{◌≡◌, ℕ, ◌+◌, true, List, [], ◌∷◌, ◌++◌, Option, Some, map, take, slice_get, sym, ◌∙◌, ap}
 use Rattle.std.proofs.lemmas.List.{map_push}
-use Rattle.px_column.specs.Datum.{Slot}
-use Rattle.px_column.specs.Kind.{Kind, slot_fits, slots_fit}
-use Rattle.px_column.specs.View.{slot_of, slots_of}
-use Rattle.px_column.specs.declared.value.Value.{Value}
+use Rattle.px_value.specs.Datum.{Slot}
+use Rattle.px_value.specs.Kind.{Kind, slot_fits, slots_fit}
+use Rattle.px_value.specs.View.{slot_of, slots_of}
+use Rattle.px_value.specs.declared.value.Value.{Value}
 use Rattle.px_frame.proofs.Each.{all_push, map_next}
 
 pub made_next : {X : Type 0} (f : X → Slot) (xs : List X) (i : ℕ) (x : X) (rows new : List (Option Value)) (v : Option Value) → new ≡ rows ++ v ∷ [] → slots_of rows ≡ map f (take i xs)

@@ -2,11 +2,11 @@
 use Rattle.std.proofs.Common.{◌≡◌, ℕ, Bool, true, ◌&&◌, List, [], ◌∷◌, Some, Result, Ok, Err, length, map, refl, ◌∙◌, ap, nat_lt, if◌then◌else◌, arith}
 use Rattle.std.proofs.lemmas.Bool.Decides.{nat_tests}
 use Rattle.std.proofs.lemmas.List.{length-map}
-use Rattle.px_column.specs.Datum.{Slot}
+use Rattle.px_value.specs.Datum.{Slot}
 use Rattle.px_column.specs.Column.{taken_at, all_within}
-use Rattle.px_column.specs.Series.{Series, slot_at}
-use Rattle.px_column.specs.declared.error.PxError.{PxError}
-use Rattle.px_column.specs.declared.error.PxError.TheVariants.{ShapeMismatch}
+use Rattle.px_value.specs.Series.{Series, slot_at}
+use Rattle.px_value.specs.declared.error.PxError.{PxError}
+use Rattle.px_value.specs.declared.error.PxError.TheVariants.{ShapeMismatch}
 use Rattle.px_frame.proofs.Each.{both, has_height_is}
 use Rattle.px_frame.specs.Frame.{names_of, all_have_height, has_height, is_even, IsFrame, frame_of, first_repeat, unless_repeated, are_below, are_in_all, taken_series, series_at, slots_at, subframe}
 

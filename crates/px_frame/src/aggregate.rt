@@ -1,19 +1,20 @@
 //! One value for each group: the groups' keys, lengths and sums (polars `agg_sum`, `group_count`).
 ghost use Rattle.std.specs.Prelude.{◌≡◌, ◌+◌, ◌<◌, ◌^◌, Ok, Some, IfOk, length, map, true, vec_len};
 ghost use Rattle.std.specs.List.{list_all};
-ghost use Rattle.px_column.specs.Answer.{Answers, AnswersBy};
-ghost use Rattle.px_column.specs.Kind.{slots_fit, uint32s};
-ghost use Rattle.px_column.specs.KindView.{kind_of};
-ghost use Rattle.px_column.specs.Sum.{is_sum_kind};
-ghost use Rattle.px_column.specs.View.{slots_of};
+ghost use Rattle.px_value.specs.Answer.{Answers, AnswersBy};
+ghost use Rattle.px_value.specs.Kind.{slots_fit, uint32s};
+ghost use Rattle.px_value.specs.KindView.{kind_of};
+ghost use Rattle.px_operation.specs.Sum.{is_sum_kind};
+ghost use Rattle.px_value.specs.View.{slots_of};
 ghost use Rattle.px_frame.specs.Aggregate.{key_column, has_row, sums_of, summed_by, counts_of, count_column};
 ghost use Rattle.px_frame.specs.Frame.{all_have_height};
 ghost use Rattle.px_frame.specs.Groups.{first_row, IsGroups};
 
 use crate::frame::take_columns;
 use crate::groups::GroupPositions;
-use px_column::kernels::sum::wrapped_sum;
-use px_column::{Column, DataType, InvalidWhy, Name, Px, PxError, Steps, Value};
+use px_column::{
+    Column, DataType, InvalidWhy, Name, Px, PxError, Steps, Value, sum_type, wrapped_sum,
+};
 use std::alloc::Global;
 use std::sync::ledger::Ledger;
 
@@ -72,7 +73,7 @@ pub fn agg_sum<L: Ledger>(
     ensures ticks { kernels.new ≡ kernels.old + 1 }
 {
     kernels.tick();
-    let Some(dtype) = values.dtype().sum_type() else {
+    let Some(dtype) = sum_type(values.dtype()) else {
         return Err(PxError::InvalidOperation(InvalidWhy::Types));
     };
     let rows = sums(alloc, &dtype, values, groups)?;

@@ -1,8 +1,8 @@
 //! The values of expressions side by side: units, which take any length, beside lists of one length.
 ghost use Rattle.std.specs.Prelude.{◌≡◌, [], Ok, length, map};
-ghost use Rattle.px_column.specs.Answer.{Answers, AnswersBy};
+ghost use Rattle.px_value.specs.Answer.{Answers, AnswersBy};
 ghost use Rattle.px_column.specs.Repeat.{repeated};
-ghost use Rattle.px_column.specs.Series.{slot_at};
+ghost use Rattle.px_value.specs.Series.{slot_at};
 ghost use Rattle.px_frame.specs.CellView.{named_cell};
 ghost use Rattle.px_frame.specs.Frame.{first_repeat, unless_repeated};
 ghost use Rattle.px_frame.specs.Spread.{assembled, rows_beside, spread_all, spread_column};
@@ -23,7 +23,7 @@ pub struct UnitColumn {
 }
 
 impl Model for UnitColumn {
-    ghost use Rattle.px_column.specs.Series.{Series, coded_series};
+    ghost use Rattle.px_value.specs.Series.{Series, coded_series};
 
     ghost Value = { Series };
 

@@ -1,11 +1,11 @@
 -- An expression that is not refused has a type.
 use Rattle.std.proofs.Common.{◌≡◌, List, [], ◌∷◌, ◌++◌, Option, Some, None, Result, Ok, Err, option_map, refl, sym, ◌∙◌, ap}
 use Rattle.std.specs.Prelude.{is_none}
-use Rattle.px_column.specs.Kind.{Kind}
-use Rattle.px_column.specs.Operator.{operator_kind}
-use Rattle.px_column.specs.Option.{◌>>=◌}
-use Rattle.px_column.specs.Reduction.{reduced_kind}
-use Rattle.px_column.specs.declared.error.PxError.{PxError}
+use Rattle.px_value.specs.Kind.{Kind}
+use Rattle.px_operation.specs.Operator.{operator_kind}
+use Rattle.px_value.specs.Option.{◌>>=◌}
+use Rattle.px_operation.specs.Reduction.{reduced_kind}
+use Rattle.px_value.specs.declared.error.PxError.{PxError}
 use Rattle.px_plan.specs.Shape.{is_unit}
 use Rattle.px_plan.specs.Tree.{Tree, Trees, no_trees, one_tree, column, literal, alias, binary, ternary, cast, function, filter, slice, gather, sort, sort_by, agg, len, window}
 use Rattle.px_plan.specs.Typing.{Scope, kind_in, kinds_in, kind_of_name, made_kind, literal_kind, function_kind, window_kind, refusals_of, all_refusals_of, or_first, refused_where, refusal_of, refusal_of_one, refusal_of_two, refusal_of_all, on_groups, grouped_reduction_refusals, grouped_function_refusals, is_one_input_missing}

@@ -2,17 +2,17 @@
 use Rattle.std.proofs.Common.{◌≡◌, ℕ, ◌+◌, ◌-◌, ◌^◌, ◌<◌, ◌≤◌, suc, Bool, true, false, ◌&&◌, List, [], ◌∷◌, ◌++◌, Option, Some, None, Ok, option_map, length, map, refl, sym, ◌∙◌, ap, arith}
 use Rattle.std.specs.List.{flat_map, list_all, list_any}
 use Rattle.std.proofs.lemmas.List.{append-nil, length-append, length-map}
-use Rattle.px_column.specs.Datum.{list, Slot, slots, items, items-slots}
-use Rattle.px_column.specs.Kind.{Kind, booleans, int8s, int16s, int32s, int64s, uint8s, uint16s, uint32s, uint64s, strings, binaries, nulls, lists}
-use Rattle.px_column.specs.Option.{◌>>=◌, each}
-use Rattle.px_column.specs.Reduction.{unless_list, reduced_kind, count_slot, sum_slot}
-use Rattle.px_column.specs.Series.{Series, slot_at}
-use Rattle.px_column.specs.Sum.{sum_kind, is_sum_kind, summed}
-use Rattle.px_column.specs.declared.error.PxError.{PxError}
-use Rattle.px_column.specs.declared.error.PxError.TheVariants.{ComputeError}
-use Rattle.px_column.specs.declared.error.ComputeWhy.TheVariants.{AggLiteral}
-use Rattle.px_column.specs.declared.method.GroupByMethod.{GroupByMethod}
-use Rattle.px_column.specs.declared.method.GroupByMethod.TheVariants.{Min, Max, Sum, First, Last, NUnique, Count, Implode}
+use Rattle.px_value.specs.Datum.{list, Slot, slots, items, items-slots}
+use Rattle.px_value.specs.Kind.{Kind, booleans, int8s, int16s, int32s, int64s, uint8s, uint16s, uint32s, uint64s, strings, binaries, nulls, lists}
+use Rattle.px_value.specs.Option.{◌>>=◌, each}
+use Rattle.px_operation.specs.Reduction.{unless_list, reduced_kind, count_slot, sum_slot}
+use Rattle.px_value.specs.Series.{Series, slot_at}
+use Rattle.px_operation.specs.Sum.{sum_kind, is_sum_kind, summed}
+use Rattle.px_value.specs.declared.error.PxError.{PxError}
+use Rattle.px_value.specs.declared.error.PxError.TheVariants.{ComputeError}
+use Rattle.px_value.specs.declared.error.ComputeWhy.TheVariants.{AggLiteral}
+use Rattle.px_value.specs.declared.method.GroupByMethod.{GroupByMethod}
+use Rattle.px_value.specs.declared.method.GroupByMethod.TheVariants.{Min, Max, Sum, First, Last, NUnique, Count, Implode}
 use Rattle.px_frame.specs.Cell.{Cell, unit, rows, value_of_cell}
 use Rattle.px_frame.specs.External.{Frame, height, scope_of, rows_of_frame}
 use Rattle.px_frame.specs.Frame.{height_of, series_at}

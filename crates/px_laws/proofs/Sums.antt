@@ -6,12 +6,12 @@ use Rattle.std.proofs.Math.Nat.{mod-eq_of_lt}
 use Rattle.std.proofs.lemmas.Int.{ints, int_wrap_fits, int_wrap-add_right, int_wrap-add_same, SFits-int_wrap, of_z-to_z}
 use Rattle.std.proofs.lemmas.List.{map-append}
 use Rattle.std.proofs.lemmas.Grind.{fold-append}
-use Rattle.px_column.specs.Datum.{integer, Slot}
-use Rattle.px_column.specs.Kind.{Kind, booleans, int8s, int16s, int32s, int64s, uint8s, uint16s, uint32s, uint64s, strings, binaries, nulls, lists}
-use Rattle.px_column.specs.Reduction.{count_slot}
-use Rattle.px_column.specs.Sum.{number_of, total, wrapped, is_sum_kind, summed}
-use Rattle.px_column.specs.Wrap.{low_bits}
-use Rattle.px_column.proofs.Wrapping.{low_bits_lt}
+use Rattle.px_value.specs.Datum.{integer, Slot}
+use Rattle.px_value.specs.Kind.{Kind, booleans, int8s, int16s, int32s, int64s, uint8s, uint16s, uint32s, uint64s, strings, binaries, nulls, lists}
+use Rattle.px_operation.specs.Reduction.{count_slot}
+use Rattle.px_operation.specs.Sum.{number_of, total, wrapped, is_sum_kind, summed}
+use Rattle.px_operation.specs.Wrap.{low_bits}
+use Rattle.px_operation.specs.WrapLaws.{low_bits_lt}
 
 -- the numbers that a type of sums tells apart are those that a width does
 record Wraps (k : Kind) : Type 0 where

@@ -4,11 +4,11 @@ use Rattle.std.specs.List.{find, list_all, list_any}
 use Rattle.std.specs.Option.{option_or}
 use Rattle.std.specs.Prelude.{is_some}
 use Rattle.std.proofs.lemmas.Bool.Decides.{nat_tests}
-use Rattle.px_column.specs.Kind.{Kind, kind_eq, kind_number, kind_back, kind_round}
-use Rattle.px_column.specs.Operator.{operated, kind_where, is_boolean_kind}
-use Rattle.px_column.specs.Series.{Series, slot_at}
-use Rattle.px_column.specs.declared.error.PxError.TheVariants.{SchemaMismatch}
-use Rattle.px_column.proofs.Fitting.{fits_at}
+use Rattle.px_value.specs.Kind.{Kind, kind_eq, kind_number, kind_back, kind_round}
+use Rattle.px_operation.specs.Operator.{operated, kind_where, is_boolean_kind}
+use Rattle.px_value.specs.Series.{Series, slot_at}
+use Rattle.px_value.specs.declared.error.PxError.TheVariants.{SchemaMismatch}
+use Rattle.px_value.specs.FitLaws.{fits_at}
 use Rattle.px_frame.specs.Cell.{Cell, unit, rows}
 use Rattle.px_frame.specs.External.{Frame, look_in, scope_of, rows_of_frame, with_field}
 use Rattle.px_frame.specs.Frame.{look, has_name, name_eq, slots_at}

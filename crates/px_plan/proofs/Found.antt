@@ -2,19 +2,19 @@
 use Rattle.std.proofs.Common.{◌≡◌, ◌==◌, ℕ, suc, Bool, true, false, ◌&&◌, ◌||◌, not, List, [], ◌∷◌, ◌++◌, Option, Some, None, Result, Ok, Err, length, refl, arith, if◌then◌else◌}
 use Rattle.std.proofs.lemmas.Bool.Decides.{nat_tests}
 use Rattle.std.specs.Prelude.{is_none, option_and_then, option_map}
-use Rattle.px_column.specs.Cast.{is_cast, cast_kind}
-use Rattle.px_column.specs.Kind.{Kind, kind_eq, is_list_kind}
-use Rattle.px_column.specs.Operator.{operator_kind, kind_where, is_boolean_kind, is_integer_kind}
-use Rattle.px_column.specs.Reduction.{reduced_kind}
-use Rattle.px_column.specs.declared.operator.Operator.{Operator}
-use Rattle.px_column.specs.declared.closed_interval.ClosedInterval.{ClosedInterval}
-use Rattle.px_column.specs.declared.method.GroupByMethod.{GroupByMethod}
-use Rattle.px_column.specs.declared.method.GroupByMethod.TheVariants.{Min, Max, Sum, First, Last, NUnique, Count, Implode}
-use Rattle.px_column.specs.declared.error.PxError.{PxError}
-use Rattle.px_column.specs.declared.error.PxError.TheVariants.{ColumnNotFound, InvalidOperation, ComputeError, SchemaMismatch}
-use Rattle.px_column.specs.declared.error.InvalidWhy.TheVariants.{WindowOnGroups, AggAboveImplode, ScalarOnGroups, ListKey, RangeType, Types}
-use Rattle.px_column.specs.declared.error.ComputeWhy.TheVariants.{AggLiteral, AggScalar, SingleIndex, NoKey}
-use Rattle.px_column.specs.Result.{◌>>=◌}
+use Rattle.px_operation.specs.Cast.{is_cast, cast_kind}
+use Rattle.px_value.specs.Kind.{Kind, kind_eq, is_list_kind}
+use Rattle.px_operation.specs.Operator.{operator_kind, kind_where, is_boolean_kind, is_integer_kind}
+use Rattle.px_operation.specs.Reduction.{reduced_kind}
+use Rattle.px_value.specs.declared.operator.Operator.{Operator}
+use Rattle.px_value.specs.declared.closed_interval.ClosedInterval.{ClosedInterval}
+use Rattle.px_value.specs.declared.method.GroupByMethod.{GroupByMethod}
+use Rattle.px_value.specs.declared.method.GroupByMethod.TheVariants.{Min, Max, Sum, First, Last, NUnique, Count, Implode}
+use Rattle.px_value.specs.declared.error.PxError.{PxError}
+use Rattle.px_value.specs.declared.error.PxError.TheVariants.{ColumnNotFound, InvalidOperation, ComputeError, SchemaMismatch}
+use Rattle.px_value.specs.declared.error.InvalidWhy.TheVariants.{WindowOnGroups, AggAboveImplode, ScalarOnGroups, ListKey, RangeType, Types}
+use Rattle.px_value.specs.declared.error.ComputeWhy.TheVariants.{AggLiteral, AggScalar, SingleIndex, NoKey}
+use Rattle.px_value.specs.Result.{◌>>=◌}
 use Rattle.px_plan.specs.Facts.{Facts, kinds_of, have_list, all_units, all_literals, any_implode, is_first_unit, is_on_groups, is_scalar, column_facts, binary_facts, ternary_facts, cast_facts, only, compared_facts, compared_all, filter_facts, slice_facts, gather_facts, sort_facts, sort_by_facts, agg_facts, len_facts, window_facts, facts_in, all_facts_in, order_facts_in, kind_found}
 use Rattle.px_plan.specs.Shape.{is_unit, is_unit_first, are_units, is_literal_tree, are_literal_trees, is_literal_order, has_implode, have_implode, has_implode_order, is_implode}
 use Rattle.px_plan.specs.Tree.{Tree, Trees, Order, Literal, single, range, series, no_trees, one_tree, no_order, ordered, column, literal, alias, binary, ternary, cast, function, filter, slice, gather, sort, sort_by, agg, len, window}

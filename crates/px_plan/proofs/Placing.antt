@@ -1,11 +1,11 @@
 -- Groups refuse more than the frame.
 use Rattle.std.proofs.Common.{◌≡◌, ◌&&◌, not, List, [], ◌∷◌, ◌++◌, Option, Ok, refl}
-use Rattle.px_column.specs.Kind.{Kind}
-use Rattle.px_column.specs.Operator.{is_integer_kind}
-use Rattle.px_column.specs.declared.error.PxError.{PxError}
-use Rattle.px_column.specs.declared.error.PxError.TheVariants.{InvalidOperation, ComputeError}
-use Rattle.px_column.specs.declared.error.InvalidWhy.TheVariants.{Types}
-use Rattle.px_column.specs.declared.error.ComputeWhy.TheVariants.{SingleIndex}
+use Rattle.px_value.specs.Kind.{Kind}
+use Rattle.px_operation.specs.Operator.{is_integer_kind}
+use Rattle.px_value.specs.declared.error.PxError.{PxError}
+use Rattle.px_value.specs.declared.error.PxError.TheVariants.{InvalidOperation, ComputeError}
+use Rattle.px_value.specs.declared.error.InvalidWhy.TheVariants.{Types}
+use Rattle.px_value.specs.declared.error.ComputeWhy.TheVariants.{SingleIndex}
 use Rattle.px_plan.specs.Places.{IsRefusedMoreOnGroups, KeepsTypeOnFrame}
 use Rattle.px_plan.specs.Shape.{is_unit}
 use Rattle.px_plan.specs.Tree.{Tree, Trees, single, range, series, no_trees, one_tree, column, literal, alias, binary, ternary, cast, function, filter, slice, gather, sort, sort_by, agg, len, window}

@@ -2,9 +2,9 @@
 use Rattle.std.proofs.Common.{◌≡◌, Bool, Option, Some, None, sym, ap, ◌∙◌}
 use Rattle.std.specs.declared.alloc.Global.{Global}
 use Rattle.std.specs.declared.boxed.Box.{Box}
-use Rattle.px_column.specs.declared.operator.Operator.{Operator}
-use Rattle.px_column.specs.declared.sort_options.SortMultipleOptions.{SortMultipleOptions}
-use Rattle.px_column.specs.declared.sort_options.SortOptions.{SortOptions}
+use Rattle.px_value.specs.declared.operator.Operator.{Operator}
+use Rattle.px_value.specs.declared.sort_options.SortMultipleOptions.{SortMultipleOptions}
+use Rattle.px_value.specs.declared.sort_options.SortOptions.{SortOptions}
 use Rattle.px_plan.specs.Parts.{order_of}
 use Rattle.px_plan.specs.Tree.{Tree, Trees, binary, ternary, filter, slice, gather, sort_by, window}
 use Rattle.px_plan.specs.View.{tree, trees, agg_step, tree_step, trees_step, mapping_of}

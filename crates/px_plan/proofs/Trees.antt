@@ -4,7 +4,7 @@ use Rattle.std.specs.List.{slice_get}
 use Rattle.std.proofs.lemmas.List.{get_or_append_left}
 use Rattle.std.proofs.Math.Seq.{get_or-append_seam}
 use Rattle.std.proofs.lemmas.Bool.Decides.{nat_tests}
-use Rattle.px_column.specs.declared.sort_options.SortOptions.{SortOptions}
+use Rattle.px_value.specs.declared.sort_options.SortOptions.{SortOptions}
 use Rattle.px_plan.specs.Tree as t
 use Rattle.px_plan.specs.Tree.{Tree, Trees, Order, trees_of, ordered}
 use Rattle.px_plan.specs.Arena.{tree_at, trees_at, order_at, agg_input, agg_method, node_tree, is_below, all_below, order_below, children_below, grow, trees_in, IsArena}

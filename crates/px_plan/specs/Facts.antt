@@ -1,17 +1,17 @@
 -- What typing finds of an expression, node by node: its type and three truths of its shape, or the first refusal.
 use Rattle.std.specs.Prelude.{ℕ, ◌==◌, Bool, true, false, ◌&&◌, ◌||◌, not, List, [], ◌∷◌, ◌++◌, Option, Some, None, Result, Ok, Err, length, map, if◌then◌else◌}
 use Rattle.std.specs.List.{list_all, list_any}
-use Rattle.px_column.specs.Cast.{is_cast}
-use Rattle.px_column.specs.Kind.{Kind, uint32s, kind_eq, is_list_kind}
-use Rattle.px_column.specs.Operator.{operator_kind, is_integer_kind, is_boolean_kind}
-use Rattle.px_column.specs.Reduction.{reduced_kind}
-use Rattle.px_column.specs.Result.{◌>>=◌}
-use Rattle.px_column.specs.declared.error.PxError.{PxError}
-use Rattle.px_column.specs.declared.error.PxError.TheVariants.{ColumnNotFound, InvalidOperation, ComputeError, SchemaMismatch}
-use Rattle.px_column.specs.declared.error.InvalidWhy.TheVariants.{WindowOnGroups, AggAboveImplode, ScalarOnGroups, ListKey, RangeType, Types}
-use Rattle.px_column.specs.declared.error.ComputeWhy.TheVariants.{AggLiteral, AggScalar, SingleIndex, NoKey}
-use Rattle.px_column.specs.declared.method.GroupByMethod.{GroupByMethod}
-use Rattle.px_column.specs.declared.operator.Operator.{Operator}
+use Rattle.px_operation.specs.Cast.{is_cast}
+use Rattle.px_value.specs.Kind.{Kind, uint32s, kind_eq, is_list_kind}
+use Rattle.px_operation.specs.Operator.{operator_kind, is_integer_kind, is_boolean_kind}
+use Rattle.px_operation.specs.Reduction.{reduced_kind}
+use Rattle.px_value.specs.Result.{◌>>=◌}
+use Rattle.px_value.specs.declared.error.PxError.{PxError}
+use Rattle.px_value.specs.declared.error.PxError.TheVariants.{ColumnNotFound, InvalidOperation, ComputeError, SchemaMismatch}
+use Rattle.px_value.specs.declared.error.InvalidWhy.TheVariants.{WindowOnGroups, AggAboveImplode, ScalarOnGroups, ListKey, RangeType, Types}
+use Rattle.px_value.specs.declared.error.ComputeWhy.TheVariants.{AggLiteral, AggScalar, SingleIndex, NoKey}
+use Rattle.px_value.specs.declared.method.GroupByMethod.{GroupByMethod}
+use Rattle.px_value.specs.declared.operator.Operator.{Operator}
 use Rattle.px_plan.specs.Shape.{is_single, is_implode}
 use Rattle.px_plan.specs.Tree.{Tree, Trees, Order, Literal, range, no_trees, one_tree, no_order, ordered, column, literal, alias, binary, ternary, cast, function, filter, slice, gather, sort, sort_by, agg, len, window}
 use Rattle.px_plan.specs.Typing.{Scope, kind_of_name, literal_kind, is_range_kind, is_integer_or_null, compared_kind, function_kind, window_kind}

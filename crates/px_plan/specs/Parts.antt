@@ -2,7 +2,7 @@
 use Rattle.std.specs.Prelude.{Option, Some, None}
 use Rattle.std.specs.declared.alloc.Global.{Global}
 use Rattle.std.specs.declared.boxed.Box.{Box}
-use Rattle.px_column.specs.declared.sort_options.SortOptions.{SortOptions}
+use Rattle.px_value.specs.declared.sort_options.SortOptions.{SortOptions}
 use Rattle.px_plan.specs.Tree.{Tree, Trees, Order, no_order, ordered}
 use Rattle.px_plan.specs.View.{tree, agg_step, tree_step, trees_step}
 use Rattle.px_plan.specs.declared.expr.AggExpr.{AggExpr, fold-AggExpr}

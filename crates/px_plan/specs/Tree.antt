@@ -1,13 +1,13 @@
 -- What contracts see of an expression: its tree, with no memory in it.
 use Rattle.std.specs.Prelude.{ℕ, ℤ, Bool, List, [], ◌∷◌}
-use Rattle.px_column.specs.Datum.{Slot}
-use Rattle.px_column.specs.Kind.{Kind}
-use Rattle.px_column.specs.Series.{Series}
-use Rattle.px_column.specs.declared.cast_options.CastOptions.{CastOptions}
-use Rattle.px_column.specs.declared.method.GroupByMethod.{GroupByMethod}
-use Rattle.px_column.specs.declared.operator.Operator.{Operator}
-use Rattle.px_column.specs.declared.sort_options.SortMultipleOptions.{SortMultipleOptions}
-use Rattle.px_column.specs.declared.sort_options.SortOptions.{SortOptions}
+use Rattle.px_value.specs.Datum.{Slot}
+use Rattle.px_value.specs.Kind.{Kind}
+use Rattle.px_value.specs.Series.{Series}
+use Rattle.px_value.specs.declared.cast_options.CastOptions.{CastOptions}
+use Rattle.px_value.specs.declared.method.GroupByMethod.{GroupByMethod}
+use Rattle.px_value.specs.declared.operator.Operator.{Operator}
+use Rattle.px_value.specs.declared.sort_options.SortMultipleOptions.{SortMultipleOptions}
+use Rattle.px_value.specs.declared.sort_options.SortOptions.{SortOptions}
 use Rattle.px_plan.specs.declared.function.FunctionExpr.{FunctionExpr}
 use Rattle.px_plan.specs.declared.window.WindowMapping.{WindowMapping}
 

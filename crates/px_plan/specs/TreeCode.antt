@@ -3,20 +3,20 @@
 use Rattle.std.specs.Prelude.{◌≡◌, ◌⊎◌, ℕ, zero, suc, ℤ, Bool, List, [], ◌∷◌, refl}
 use Rattle.std.proofs.Common.{◌∙◌, ap, inl, inr}
 use Rattle.std.specs.Coded.{Coded, code_by, coded×, coded⊎, coded_list, coded_ℕ, coded_ℤ, coded_bool, coded_option}
-use Rattle.px_column.specs.Datum.{Slot}
-use Rattle.px_column.specs.DatumCode.{coded_datum}
-use Rattle.px_column.specs.Kind.{Kind, coded_kind}
-use Rattle.px_column.specs.Series.{Series, coded_series}
-use Rattle.px_column.specs.declared.cast_options.CastOptions.{CastOptions}
-use Rattle.px_column.specs.declared.method.GroupByMethod.{GroupByMethod}
-use Rattle.px_column.specs.declared.operator.Operator.{Operator}
-use Rattle.px_column.specs.declared.sort_options.SortMultipleOptions.{SortMultipleOptions}
-use Rattle.px_column.specs.declared.sort_options.SortOptions.{SortOptions}
-use Rattle.px_column.specs.contracts.cast_options.CastOptions as cast_options
-use Rattle.px_column.specs.contracts.method.GroupByMethod as method
-use Rattle.px_column.specs.contracts.operator.Operator as operator
-use Rattle.px_column.specs.contracts.sort_options.SortMultipleOptions as sort_multiple_options
-use Rattle.px_column.specs.contracts.sort_options.SortOptions as sort_options
+use Rattle.px_value.specs.Datum.{Slot}
+use Rattle.px_value.specs.DatumCode.{coded_datum}
+use Rattle.px_value.specs.Kind.{Kind, coded_kind}
+use Rattle.px_value.specs.Series.{Series, coded_series}
+use Rattle.px_value.specs.declared.cast_options.CastOptions.{CastOptions}
+use Rattle.px_value.specs.declared.method.GroupByMethod.{GroupByMethod}
+use Rattle.px_value.specs.declared.operator.Operator.{Operator}
+use Rattle.px_value.specs.declared.sort_options.SortMultipleOptions.{SortMultipleOptions}
+use Rattle.px_value.specs.declared.sort_options.SortOptions.{SortOptions}
+use Rattle.px_value.specs.contracts.cast_options.CastOptions as cast_options
+use Rattle.px_value.specs.contracts.method.GroupByMethod as method
+use Rattle.px_value.specs.contracts.operator.Operator as operator
+use Rattle.px_value.specs.contracts.sort_options.SortMultipleOptions as sort_multiple_options
+use Rattle.px_value.specs.contracts.sort_options.SortOptions as sort_options
 use Rattle.px_plan.specs.contracts.function.FunctionExpr as function_expr
 use Rattle.px_plan.specs.contracts.window.WindowMapping as window_mapping
 use Rattle.px_plan.specs.declared.function.FunctionExpr.{FunctionExpr}

@@ -3,10 +3,10 @@ use Rattle.std.specs.Prelude.{ℕ, Bool, not, List, [], ◌∷◌, ◌++◌, Opt
 use Rattle.std.specs.List.{flat_map, list_any, zip}
 use Rattle.std.specs.Option.{option_map_or}
 use Rattle.std.specs.Result.{result_ok}
-use Rattle.px_column.specs.Kind.{Kind, nulls}
-use Rattle.px_column.specs.Option.{◌>>=◌, each}
-use Rattle.px_column.specs.Reduction.{count_slot}
-use Rattle.px_column.specs.declared.error.PxError.{PxError}
+use Rattle.px_value.specs.Kind.{Kind, nulls}
+use Rattle.px_value.specs.Option.{◌>>=◌, each}
+use Rattle.px_operation.specs.Reduction.{count_slot}
+use Rattle.px_value.specs.declared.error.PxError.{PxError}
 use Rattle.px_frame.specs.Cell.{Cell, unit, rows}
 use Rattle.px_frame.specs.External.{Frame, height, look_in, scope_of, rows_of_frame}
 use Rattle.px_frame.specs.Frame.{look, has_height}

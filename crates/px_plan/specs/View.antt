@@ -2,11 +2,11 @@
 use Rattle.std.specs.Prelude.{pos, Option, Some, None}
 use Rattle.std.specs.declared.alloc.Global.{Global}
 use Rattle.std.specs.declared.boxed.Box.{Box}
-use Rattle.px_column.specs.Datum.{boolean, integer, text, bytes}
-use Rattle.px_column.specs.Kind as k
-use Rattle.px_column.specs.KindView.{kind_of}
-use Rattle.px_column.specs.declared.method.GroupByMethod.TheVariants as method
-use Rattle.px_column.specs.declared.sort_options.SortOptions.{SortOptions}
+use Rattle.px_value.specs.Datum.{boolean, integer, text, bytes}
+use Rattle.px_value.specs.Kind as k
+use Rattle.px_value.specs.KindView.{kind_of}
+use Rattle.px_value.specs.declared.method.GroupByMethod.TheVariants as method
+use Rattle.px_value.specs.declared.sort_options.SortOptions.{SortOptions}
 use Rattle.px_plan.specs.Tree as t
 use Rattle.px_plan.specs.Tree.{Tree, Trees, Order, trees_of, no_trees, one_tree, no_order, ordered, Literal, single, range, series}
 use Rattle.px_plan.specs.declared.expr.Expr.{Expr, fold-Expr}

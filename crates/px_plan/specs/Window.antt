@@ -2,13 +2,13 @@
 use Rattle.std.specs.Prelude.{ℕ, ◌==◌, List, [], ◌∷◌, ◌++◌, Option, Some, None, Result, Ok, Err, length, map, find, replicate, if◌then◌else◌}
 use Rattle.std.specs.List.{flat_map, range_with_len, zip}
 use Rattle.std.specs.Option.{option_map_or}
-use Rattle.px_column.specs.Datum.{Slot}
-use Rattle.px_column.specs.Result.{◌>>=◌}
-use Rattle.px_column.specs.Series.{Series}
-use Rattle.px_column.specs.declared.error.PxError.{PxError}
-use Rattle.px_column.specs.declared.error.PxError.TheVariants.{ComputeError}
-use Rattle.px_column.specs.declared.error.ComputeWhy.TheVariants.{WindowLength}
-use Rattle.px_column.specs.declared.sort_options.SortOptions.{SortOptions}
+use Rattle.px_value.specs.Datum.{Slot}
+use Rattle.px_value.specs.Result.{◌>>=◌}
+use Rattle.px_value.specs.Series.{Series}
+use Rattle.px_value.specs.declared.error.PxError.{PxError}
+use Rattle.px_value.specs.declared.error.PxError.TheVariants.{ComputeError}
+use Rattle.px_value.specs.declared.error.ComputeWhy.TheVariants.{WindowLength}
+use Rattle.px_value.specs.declared.sort_options.SortOptions.{SortOptions}
 use Rattle.px_frame.specs.Cell.{Cell, unit, rows, list_of, value_of_cell}
 use Rattle.px_frame.specs.Ordered.{ordered_parts}
 use Rattle.px_frame.specs.Spread.{NamedCell, spread_column, spread_all}

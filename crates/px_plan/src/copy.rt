@@ -1,6 +1,6 @@
 //! Copies of expressions.
 ghost use Rattle.std.specs.Prelude.{◌≡◌, Ok};
-ghost use Rattle.px_column.specs.Answer.{AnswersBy};
+ghost use Rattle.px_value.specs.Answer.{AnswersBy};
 ghost use Rattle.px_plan.specs.Parts.{agg_of, order_of};
 ghost use Rattle.px_plan.specs.View.{tree, trees};
 

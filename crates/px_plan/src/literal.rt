@@ -1,6 +1,6 @@
 //! Literals.
 ghost use Rattle.std.specs.Prelude.{◌≡◌, Ok};
-ghost use Rattle.px_column.specs.Answer.{AnswersBy};
+ghost use Rattle.px_value.specs.Answer.{AnswersBy};
 ghost use Rattle.px_plan.specs.Shape.{is_single};
 ghost use Rattle.px_plan.specs.View.{literal_of};
 

@@ -1,6 +1,6 @@
 //! From arenas to expressions.
 ghost use Rattle.std.specs.Prelude.{◌≡◌, ◌<◌, ◌≤◌, Ok, length, true};
-ghost use Rattle.px_column.specs.Answer.{AnswersBy};
+ghost use Rattle.px_value.specs.Answer.{AnswersBy};
 ghost use Rattle.px_plan.specs.Arena.{tree_at, trees_at, order_at, agg_tree, all_below, order_below, agg_input, is_below};
 ghost use Rattle.px_plan.specs.Parts.{agg_of, order_of};
 ghost use Rattle.px_plan.specs.View.{tree, trees};

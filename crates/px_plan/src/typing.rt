@@ -1,7 +1,7 @@
 //! The types of expressions.
 ghost use Rattle.std.specs.Prelude.{◌≡◌, option_map};
-ghost use Rattle.px_column.specs.Answer.{AnswersBy};
-ghost use Rattle.px_column.specs.KindView.{kind_of};
+ghost use Rattle.px_value.specs.Answer.{AnswersBy};
+ghost use Rattle.px_value.specs.KindView.{kind_of};
 ghost use Rattle.px_plan.specs.Facts.{facts_in, all_facts_in, order_facts_in, agg_facts};
 ghost use Rattle.px_plan.specs.FactsView.{facts_of, all_facts_of};
 ghost use Rattle.px_plan.specs.Places.{IsRefusedMoreOnGroups, KeepsTypeOnFrame};

@@ -3,15 +3,15 @@ use Rattle.std.proofs.Common.{◌≡◌, ℕ, ◌<◌, Bool, true, false, not, �
 use Rattle.std.specs.List.{list_all, list_any}
 use Rattle.std.proofs.lemmas.Bool.Decides.{nat_tests}
 use Rattle.std.proofs.lemmas.List.{length-map}
-use Rattle.px_column.specs.Series.{Series, slot_at}
-use Rattle.px_column.specs.declared.error.PxError.TheVariants.{ShapeMismatch, InvalidOperation}
-use Rattle.px_column.specs.declared.error.InvalidWhy.TheVariants.{ListKey}
+use Rattle.px_value.specs.Series.{Series, slot_at}
+use Rattle.px_value.specs.declared.error.PxError.TheVariants.{ShapeMismatch, InvalidOperation}
+use Rattle.px_value.specs.declared.error.InvalidWhy.TheVariants.{ListKey}
 use Rattle.px_frame.specs.Aggregate.{key_column}
 use Rattle.px_frame.specs.Frame.{names_of, height_of, has_height, all_have_height, is_even}
 use Rattle.px_frame.specs.Groups.{Group, group_of, grouped, groups_by, first_row, is_list}
 use Rattle.px_plan.specs.Tree.{Tree}
 use Rattle.px_steps.specs.Built.{is_key}
-use Rattle.px_column.specs.Option.{each}
+use Rattle.px_value.specs.Option.{each}
 use Rattle.px_steps.specs.Plain.{key_values}
 
 pub and_then_some : {A B : Type 0} (o : Option A) (f : A → Option B) (b : B) → option_and_then f o ≡ Some b → (a : A) × (o ≡ Some a) × (f a ≡ Some b)

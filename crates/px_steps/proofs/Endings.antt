@@ -1,8 +1,8 @@
 -- What follows from how a run ends.
 use Rattle.std.proofs.Common.{◌≡◌, ℕ, ◌⊎◌, inl, inr, List, refl, arith, subst}
 use Rattle.std.specs.Prelude.{Option, Some, None, IfSome}
-use Rattle.px_column.specs.declared.error.PxError.{PxError}
-use Rattle.px_column.specs.declared.error.PxError.TheVariants.{OutOfMemory}
+use Rattle.px_value.specs.declared.error.PxError.{PxError}
+use Rattle.px_value.specs.declared.error.PxError.TheVariants.{OutOfMemory}
 use Rattle.px_frame.specs.External.{alone}
 use Rattle.px_steps.specs.Causes.{IsCauseIn}
 use Rattle.px_steps.specs.Document.{Doc}

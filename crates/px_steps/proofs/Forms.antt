@@ -12,10 +12,10 @@ use Rattle.std.proofs.lemmas.Map.Text.{is_eq-slice_cmp}
 use Rattle.std.proofs.lemmas.Slice.Eq.{bytes_eq-Decides}
 use Rattle.serde_json.specs.Data.{Data, null, boolean, number, string, array, object, Members, no_members, member}
 use Rattle.serde_json.specs.Find.{as_null, as_bool, as_str, get}
-use Rattle.px_column.specs.Option.{◌>>=◌, each}
+use Rattle.px_value.specs.Option.{◌>>=◌, each}
 use Rattle.px_plan.specs.Tree.{Tree, Literal, column, literal, alias, binary, ternary, cast, function, filter, slice, gather, sort, sort_by, agg, len, window, series, one_tree, no_trees, trees_of}
-use Rattle.px_column.specs.declared.method.GroupByMethod.{GroupByMethod}
-use Rattle.px_column.specs.declared.method.GroupByMethod.TheVariants.{Min, Max, Sum, First, Last, NUnique, Count, Implode}
+use Rattle.px_value.specs.declared.method.GroupByMethod.{GroupByMethod}
+use Rattle.px_value.specs.declared.method.GroupByMethod.TheVariants.{Min, Max, Sum, First, Last, NUnique, Count, Implode}
 use Rattle.px_plan.specs.declared.function.FunctionExpr.TheVariants.{Explode, IsBetween, IsIn, Shift}
 use Rattle.px_steps.specs.Document.{kind_named, column_of}
 use Rattle.px_steps.specs.ExprForm.{expr_within, expr_form, reduction_named, operator_named, function_named, closed_named, int64_of, options_of, literal_parts, range_parts, alias_parts, binary_parts, ternary_parts, cast_parts, function_parts, cast_named, flags_of, mapping_named, is_text, filter_parts, slice_parts, gather_parts, sort_parts, sort_by_parts, reduction_parts, window_parts, order_of}

@@ -4,15 +4,15 @@ use Rattle.std.specs.List.{flat_map, list_all, list_any}
 use Rattle.std.specs.Option.{option_map_or}
 use Rattle.std.specs.Result.{result_ok}
 use Rattle.std.proofs.lemmas.Bool.Decides.{nat_tests}
-use Rattle.px_column.specs.Answer.{Answers, Refuses}
-use Rattle.px_column.specs.Datum.{Slot}
-use Rattle.px_column.specs.Kind.{Kind, is_list_kind}
-use Rattle.px_column.specs.Option.{each}
-use Rattle.px_column.specs.Series.{Series}
-use Rattle.px_column.specs.declared.error.PxError.{PxError}
-use Rattle.px_column.specs.declared.error.PxError.TheVariants.{Duplicate, InvalidOperation, ComputeError, ShapeMismatch, OutOfMemory}
-use Rattle.px_column.specs.declared.error.InvalidWhy.TheVariants.{ListKey}
-use Rattle.px_column.specs.declared.error.ComputeWhy.TheVariants.{NoKey}
+use Rattle.px_value.specs.Answer.{Answers, Refuses}
+use Rattle.px_value.specs.Datum.{Slot}
+use Rattle.px_value.specs.Kind.{Kind, is_list_kind}
+use Rattle.px_value.specs.Option.{each}
+use Rattle.px_value.specs.Series.{Series}
+use Rattle.px_value.specs.declared.error.PxError.{PxError}
+use Rattle.px_value.specs.declared.error.PxError.TheVariants.{Duplicate, InvalidOperation, ComputeError, ShapeMismatch, OutOfMemory}
+use Rattle.px_value.specs.declared.error.InvalidWhy.TheVariants.{ListKey}
+use Rattle.px_value.specs.declared.error.ComputeWhy.TheVariants.{NoKey}
 use Rattle.px_expr.specs.Built.{is_built_tree}
 use Rattle.px_expr.specs.Plan.{planned_over}
 use Rattle.px_expr.specs.Planned.{Planned}

@@ -1,8 +1,8 @@
 -- A group step that is run is one of expressions that have nodes, without chunks.
 use Rattle.std.proofs.Common.{◌≡◌, ℕ, Bool, true, false, ◌&&◌, List, [], ◌∷◌, Option, Some, None, Result, refl, sym, ◌∙◌, ap, subst}
 use Rattle.std.specs.List.{list_all}
-use Rattle.px_column.specs.Series.{Series}
-use Rattle.px_column.specs.declared.error.PxError.{PxError}
+use Rattle.px_value.specs.Series.{Series}
+use Rattle.px_value.specs.declared.error.PxError.{PxError}
 use Rattle.px_expr.specs.Built.{is_built_tree}
 use Rattle.px_plan.specs.Tree.{Tree}
 use Rattle.px_steps.specs.Built.{is_built}

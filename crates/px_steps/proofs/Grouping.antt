@@ -1,17 +1,17 @@
 -- Expressions on the frames of groups: what is known of them on the whole frame is known of them there.
 use Rattle.std.proofs.Common.{◌≡◌, inl, inr, ℕ, zero, suc, ◌≤◌, ◌^◌, Bool, true, List, [], ◌∷◌, ◌++◌, Option, Some, None, Result, Ok, Err, length, option_map, option_and_then, map, max, sum, nat_lt, slice_get, refl, sym, ◌∙◌, ap, subst, arith, if◌then◌else◌}
 use Rattle.std.specs.List.{flat_map, list_all}
-use Rattle.px_column.specs.Answer.{Answers, AnswersBy, Refuses}
-use Rattle.px_column.specs.Datum.{Slot}
+use Rattle.px_value.specs.Answer.{Answers, AnswersBy, Refuses}
+use Rattle.px_value.specs.Datum.{Slot}
 use Rattle.px_column.specs.Column.{made}
-use Rattle.px_column.specs.Kind.{Kind, lists, slot_fits, slots_fit}
-use Rattle.px_column.specs.Option.{each}
-use Rattle.px_column.specs.Reduction.{reduced_kind}
-use Rattle.px_column.specs.Series.{Series}
-use Rattle.px_column.specs.declared.error.PxError.{PxError}
-use Rattle.px_column.specs.declared.error.PxError.TheVariants.{OutOfMemory, ColumnNotFound, Duplicate, InvalidOperation, ComputeError, OutOfBounds, ShapeMismatch, SchemaMismatch}
-use Rattle.px_column.specs.declared.error.InvalidWhy.TheVariants.{Types}
-use Rattle.px_column.specs.declared.method.GroupByMethod.TheVariants.{Sum}
+use Rattle.px_value.specs.Kind.{Kind, lists, slot_fits, slots_fit}
+use Rattle.px_value.specs.Option.{each}
+use Rattle.px_operation.specs.Reduction.{reduced_kind}
+use Rattle.px_value.specs.Series.{Series}
+use Rattle.px_value.specs.declared.error.PxError.{PxError}
+use Rattle.px_value.specs.declared.error.PxError.TheVariants.{OutOfMemory, ColumnNotFound, Duplicate, InvalidOperation, ComputeError, OutOfBounds, ShapeMismatch, SchemaMismatch}
+use Rattle.px_value.specs.declared.error.InvalidWhy.TheVariants.{Types}
+use Rattle.px_value.specs.declared.method.GroupByMethod.TheVariants.{Sum}
 use Rattle.px_expr.specs.Built.{is_built_tree, is_sum}
 use Rattle.px_expr.specs.Plan.{planned_over}
 use Rattle.px_expr.specs.Planned.{Planned}

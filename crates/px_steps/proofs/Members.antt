@@ -3,10 +3,10 @@ use Rattle.std.proofs.Common.{◌≡◌, ◌⊎◌, inl, inr, ℕ, zero, suc, �
 use Rattle.std.specs.List.{flat_map, list_all}
 use Rattle.std.proofs.lemmas.List.{at_drop_more}
 use Rattle.std.proofs.lemmas.List.Sums.{sum_by-cons}
-use Rattle.px_column.specs.declared.error.PxError.{PxError}
+use Rattle.px_value.specs.declared.error.PxError.{PxError}
 use Rattle.px_expr.specs.Value.{IsOneOf}
 use Rattle.px_steps.specs.Finds.{Lacks}
-use Rattle.px_column.specs.Option.{each}
+use Rattle.px_value.specs.Option.{each}
 use Rattle.px_steps.specs.Form.{with_front}
 use Rattle.px_steps.specs.Meets.{IsFirst}
 use Rattle.px_steps.specs.Plain.{greatest}

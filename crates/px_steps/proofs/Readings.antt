@@ -3,10 +3,10 @@ use Rattle.std.proofs.Common.{map, ◌≡◌, ◌≢◌, ◌≤◌, ◌-◌, ℕ
 use Rattle.std.specs.Option.{option_or, option_and_then, is_some}
 use Rattle.serde_json.specs.Data.{Data}
 use Rattle.serde_json.specs.Find.{as_null}
-use Rattle.px_column.specs.Datum.{Datum}
-use Rattle.px_column.specs.Kind.{Kind, booleans, int8s, int16s, int32s, int64s, uint8s, uint16s, uint32s, uint64s, strings, binaries, nulls, lists}
+use Rattle.px_value.specs.Datum.{Datum}
+use Rattle.px_value.specs.Kind.{Kind, booleans, int8s, int16s, int32s, int64s, uint8s, uint16s, uint32s, uint64s, strings, binaries, nulls, lists}
 use Rattle.px_steps.specs.Document.{bytes_of_hex, hex_byte, in_list, kind_within, list_of, place_of, simple_kind, unless_null}
-use Rattle.px_column.specs.Option.{◌>>=◌, each}
+use Rattle.px_value.specs.Option.{◌>>=◌, each}
 use Rattle.px_steps.specs.Form.{Misses, items, with_front}
 use Rattle.px_steps.specs.declared.document.fault.DocumentFault.{DocumentFault}
 use Rattle.px_steps.specs.declared.document.fault.DocumentFault.TheVariants.{BadDocument, OutOfMemory}

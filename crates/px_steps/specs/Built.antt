@@ -1,7 +1,7 @@
 -- The steps that are run today, and those of them that are taken over groups in place.
 use Rattle.std.specs.Prelude.{Bool, true, false, ◌&&◌, not, List, None}
 use Rattle.std.specs.List.{list_all}
-use Rattle.px_column.specs.Series.{Series}
+use Rattle.px_value.specs.Series.{Series}
 use Rattle.px_frame.specs.Frame.{has_height, height_of}
 use Rattle.px_frame.specs.Groups.{is_list}
 use Rattle.px_plan.specs.Tree.{Tree, column, agg, len}

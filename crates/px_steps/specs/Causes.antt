@@ -1,9 +1,9 @@
 -- Steps that are neither refused nor have a fault, and why there may be no answer.
 use Rattle.std.specs.Prelude.{◌≡◌, ◌⊎◌, ◌^◌, ◌≤◌, List, [], ◌∷◌, Some, None, Result, Ok, Err}
-use Rattle.px_column.specs.Series.{Series}
-use Rattle.px_column.specs.declared.error.PxError.{PxError}
-use Rattle.px_column.specs.declared.error.PxError.TheVariants.{ComputeError, OutOfMemory}
-use Rattle.px_column.specs.declared.error.ComputeWhy.TheVariants.{TooLong}
+use Rattle.px_value.specs.Series.{Series}
+use Rattle.px_value.specs.declared.error.PxError.{PxError}
+use Rattle.px_value.specs.declared.error.PxError.TheVariants.{ComputeError, OutOfMemory}
+use Rattle.px_value.specs.declared.error.ComputeWhy.TheVariants.{TooLong}
 use Rattle.px_expr.specs.Planned.{Planned}
 use Rattle.px_expr.specs.Value.{IsCause, IsOneOf}
 use Rattle.px_frame.specs.External.{Frame, alone}

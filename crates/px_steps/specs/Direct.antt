@@ -3,16 +3,16 @@
 use Rattle.std.specs.Prelude.{ℕ, pos, Bool, true, false, List, [], ◌∷◌, ◌++◌, Option, Some, None, map, option_map, option_and_then, replicate}
 use Rattle.std.specs.List.{flat_map}
 use Rattle.std.specs.Option.{option_map_or}
-use Rattle.px_column.specs.Datum.{integer, Slot}
-use Rattle.px_column.specs.Kind.{Kind, lists, uint32s}
-use Rattle.px_column.specs.Series.{Series}
-use Rattle.px_column.specs.Sum.{sum_kind, summed}
-use Rattle.px_column.specs.declared.error.PxError.{PxError}
-use Rattle.px_column.specs.declared.error.PxError.TheVariants.{ColumnNotFound, Duplicate, InvalidOperation, ComputeError}
-use Rattle.px_column.specs.declared.error.InvalidWhy.TheVariants.{ListKey, Types}
-use Rattle.px_column.specs.declared.error.ComputeWhy.TheVariants.{AggScalar}
-use Rattle.px_column.specs.declared.method.GroupByMethod.{GroupByMethod}
-use Rattle.px_column.specs.declared.method.GroupByMethod.TheVariants.{Sum}
+use Rattle.px_value.specs.Datum.{integer, Slot}
+use Rattle.px_value.specs.Kind.{Kind, lists, uint32s}
+use Rattle.px_value.specs.Series.{Series}
+use Rattle.px_operation.specs.Sum.{sum_kind, summed}
+use Rattle.px_value.specs.declared.error.PxError.{PxError}
+use Rattle.px_value.specs.declared.error.PxError.TheVariants.{ColumnNotFound, Duplicate, InvalidOperation, ComputeError}
+use Rattle.px_value.specs.declared.error.InvalidWhy.TheVariants.{ListKey, Types}
+use Rattle.px_value.specs.declared.error.ComputeWhy.TheVariants.{AggScalar}
+use Rattle.px_value.specs.declared.method.GroupByMethod.{GroupByMethod}
+use Rattle.px_value.specs.declared.method.GroupByMethod.TheVariants.{Sum}
 use Rattle.px_frame.specs.Cell.{Cell, unit, rows, list_of, value_of_cell}
 use Rattle.px_frame.specs.Frame.{look, height_of, subframe, first_repeat}
 use Rattle.px_frame.specs.Parts.{parts_of}
@@ -20,7 +20,7 @@ use Rattle.px_plan.specs.Shape.{is_unit, name_of}
 use Rattle.px_plan.specs.Tree.{Tree, column, agg, len}
 use Rattle.px_plan.specs.declared.context.Context.{Context}
 use Rattle.px_plan.specs.declared.context.Context.TheVariants.{Default, Aggregation}
-use Rattle.px_column.specs.Option.{each}
+use Rattle.px_value.specs.Option.{each}
 use Rattle.px_steps.specs.Form.{with_front}
 use Rattle.px_steps.specs.Plain.{first_of, key_values, no_key_refusal}
 use Rattle.px_steps.specs.Step.{PlainStep, group}

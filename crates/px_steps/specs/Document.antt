@@ -4,10 +4,10 @@ use Rattle.std.specs.Option.{option_or}
 use Rattle.std.specs.Str.{bytes_eq}
 use Rattle.serde_json.specs.Data.{Data}
 use Rattle.serde_json.specs.Find.{as_null, as_bool, as_number, as_str, as_integer}
-use Rattle.px_column.specs.Datum.{Datum, boolean, integer, text, bytes, list, Slot, slots}
-use Rattle.px_column.specs.Kind.{Kind, booleans, int8s, int16s, int32s, int64s, uint8s, uint16s, uint32s, uint64s, strings, binaries, nulls, lists, slots_fit}
-use Rattle.px_column.specs.Series.{Series}
-use Rattle.px_column.specs.Option.{◌>>=◌, each}
+use Rattle.px_value.specs.Datum.{Datum, boolean, integer, text, bytes, list, Slot, slots}
+use Rattle.px_value.specs.Kind.{Kind, booleans, int8s, int16s, int32s, int64s, uint8s, uint16s, uint32s, uint64s, strings, binaries, nulls, lists, slots_fit}
+use Rattle.px_value.specs.Series.{Series}
+use Rattle.px_value.specs.Option.{◌>>=◌, each}
 use Rattle.px_steps.specs.Form.{items, fields}
 use Rattle.px_steps.specs.Step.{PlainStep, step_view}
 use Rattle.px_steps.specs.declared.document.parsed.Parsed.{Parsed}

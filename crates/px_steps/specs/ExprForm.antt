@@ -4,19 +4,19 @@ use Rattle.std.specs.Option.{option_or}
 use Rattle.std.specs.Str.{bytes_eq}
 use Rattle.serde_json.specs.Data.{Data}
 use Rattle.serde_json.specs.Find.{as_null, as_bool, as_number, as_str, as_i64}
-use Rattle.px_column.specs.Datum.{Slot}
-use Rattle.px_column.specs.Kind.{Kind, nulls, fits, is_list_kind}
-use Rattle.px_column.specs.Option.{◌>>=◌, each}
-use Rattle.px_column.specs.declared.cast_options.CastOptions.{CastOptions}
-use Rattle.px_column.specs.declared.cast_options.CastOptions.TheVariants.{Strict, NonStrict, Overflowing}
-use Rattle.px_column.specs.declared.closed_interval.ClosedInterval.{ClosedInterval}
-use Rattle.px_column.specs.declared.closed_interval.ClosedInterval.TheVariants as closed
-use Rattle.px_column.specs.declared.method.GroupByMethod.{GroupByMethod}
-use Rattle.px_column.specs.declared.method.GroupByMethod.TheVariants.{Min, Max, Sum, First, Last, NUnique, Count, Implode}
-use Rattle.px_column.specs.declared.operator.Operator.{Operator}
-use Rattle.px_column.specs.declared.operator.Operator.TheVariants.{Eq, EqValidity, NotEq, NotEqValidity, Lt, LtEq, Gt, GtEq, Plus, Minus, Multiply, Divide, FloorDivide, Modulus, And, Or, Xor, LogicalAnd, LogicalOr}
-use Rattle.px_column.specs.declared.sort_options.SortMultipleOptions.{SortMultipleOptions}
-use Rattle.px_column.specs.declared.sort_options.SortOptions.{SortOptions}
+use Rattle.px_value.specs.Datum.{Slot}
+use Rattle.px_value.specs.Kind.{Kind, nulls, fits, is_list_kind}
+use Rattle.px_value.specs.Option.{◌>>=◌, each}
+use Rattle.px_value.specs.declared.cast_options.CastOptions.{CastOptions}
+use Rattle.px_value.specs.declared.cast_options.CastOptions.TheVariants.{Strict, NonStrict, Overflowing}
+use Rattle.px_value.specs.declared.closed_interval.ClosedInterval.{ClosedInterval}
+use Rattle.px_value.specs.declared.closed_interval.ClosedInterval.TheVariants as closed
+use Rattle.px_value.specs.declared.method.GroupByMethod.{GroupByMethod}
+use Rattle.px_value.specs.declared.method.GroupByMethod.TheVariants.{Min, Max, Sum, First, Last, NUnique, Count, Implode}
+use Rattle.px_value.specs.declared.operator.Operator.{Operator}
+use Rattle.px_value.specs.declared.operator.Operator.TheVariants.{Eq, EqValidity, NotEq, NotEqValidity, Lt, LtEq, Gt, GtEq, Plus, Minus, Multiply, Divide, FloorDivide, Modulus, And, Or, Xor, LogicalAnd, LogicalOr}
+use Rattle.px_value.specs.declared.sort_options.SortMultipleOptions.{SortMultipleOptions}
+use Rattle.px_value.specs.declared.sort_options.SortOptions.{SortOptions}
 use Rattle.px_plan.specs.Tree.{Tree, Order, Literal, single, range, series, trees_of, no_trees, one_tree, no_order, ordered, column, literal, alias, binary, ternary, cast, function, filter, slice, gather, sort, sort_by, agg, len, window}
 use Rattle.px_plan.specs.declared.function.FunctionExpr.{FunctionExpr}
 use Rattle.px_plan.specs.declared.function.FunctionExpr.TheVariants.{IsNull, IsNotNull, Not, IsBetween, IsIn, Reverse, Shift, DropNulls, NullCount, Explode}

@@ -1,6 +1,6 @@
 -- The fault that a refusal of a column is.
-use Rattle.px_column.specs.declared.error.PxError.{PxError}
-use Rattle.px_column.specs.declared.error.PxError.TheVariants.{OutOfMemory}
+use Rattle.px_value.specs.declared.error.PxError.{PxError}
+use Rattle.px_value.specs.declared.error.PxError.TheVariants.{OutOfMemory}
 use Rattle.px_steps.specs.declared.document.fault.DocumentFault.{DocumentFault}
 use Rattle.px_steps.specs.declared.document.fault.DocumentFault.TheVariants as fault
 

@@ -1,11 +1,11 @@
 -- The line that tells of a fault.
 use Rattle.std.specs.Prelude.{ℕ, List, [], ◌∷◌, ◌++◌, codes}
-use Rattle.px_column.specs.declared.error.PxError.{PxError}
-use Rattle.px_column.specs.declared.error.PxError.TheVariants.{ColumnNotFound, Duplicate, InvalidOperation, ComputeError, OutOfBounds, ShapeMismatch, SchemaMismatch, OutOfMemory}
-use Rattle.px_column.specs.declared.error.InvalidWhy.{InvalidWhy}
-use Rattle.px_column.specs.declared.error.InvalidWhy.TheVariants.{WindowOnGroups, AggAboveImplode, ScalarOnGroups, ListKey, RangeType, Types, CastLost}
-use Rattle.px_column.specs.declared.error.ComputeWhy.{ComputeWhy}
-use Rattle.px_column.specs.declared.error.ComputeWhy.TheVariants.{AggLiteral, AggScalar, SingleIndex, NoKey, NotPartitionSafe, SliceArgument, NullIndex, RangeBound, WindowLength, ChunkLengths, TooLong, DepthText, Interrupted}
+use Rattle.px_value.specs.declared.error.PxError.{PxError}
+use Rattle.px_value.specs.declared.error.PxError.TheVariants.{ColumnNotFound, Duplicate, InvalidOperation, ComputeError, OutOfBounds, ShapeMismatch, SchemaMismatch, OutOfMemory}
+use Rattle.px_value.specs.declared.error.InvalidWhy.{InvalidWhy}
+use Rattle.px_value.specs.declared.error.InvalidWhy.TheVariants.{WindowOnGroups, AggAboveImplode, ScalarOnGroups, ListKey, RangeType, Types, CastLost}
+use Rattle.px_value.specs.declared.error.ComputeWhy.{ComputeWhy}
+use Rattle.px_value.specs.declared.error.ComputeWhy.TheVariants.{AggLiteral, AggScalar, SingleIndex, NoKey, NotPartitionSafe, SliceArgument, NullIndex, RangeBound, WindowLength, ChunkLengths, TooLong, DepthText, Interrupted}
 use Rattle.px_steps.specs.Text.{quoted}
 
 -- why an operation is not there, by the variant's name

@@ -1,8 +1,8 @@
 -- What is written for an input.
 use Rattle.std.specs.Prelude.{◌≡◌, ◌≢◌, ℕ, List, Some}
-use Rattle.px_column.specs.Series.{Series}
-use Rattle.px_column.specs.declared.error.PxError.{PxError}
-use Rattle.px_column.specs.declared.error.PxError.TheVariants.{OutOfMemory}
+use Rattle.px_value.specs.Series.{Series}
+use Rattle.px_value.specs.declared.error.PxError.{PxError}
+use Rattle.px_value.specs.declared.error.PxError.TheVariants.{OutOfMemory}
 use Rattle.px_frame.specs.Frame.{IsFrame, height_of}
 use Rattle.px_steps.specs.Document.{Doc}
 use Rattle.px_steps.specs.DocumentText.{IsDocumentText}

@@ -1,12 +1,12 @@
 //! An aggregation's value for each group of rows.
 ghost use Rattle.std.specs.Prelude.{◌≡◌, ◌<◌, ◌^◌, ◌∷◌, [], Some, IfOk, IfSome, Ok, OnOk, option_map, length, map, true, vec_len};
-ghost use Rattle.px_column.specs.Answer.{AnswersBy};
-ghost use Rattle.px_column.specs.Kind.{Kind, slot_fits, slots_fit};
-ghost use Rattle.px_column.specs.KindView.{kind_of};
-ghost use Rattle.px_column.specs.Option.{each};
-ghost use Rattle.px_column.specs.Series.{slot_at};
-ghost use Rattle.px_column.specs.View.{slot_of, slots_of};
-ghost use Rattle.px_column.specs.declared.method.GroupByMethod.TheVariants.{Sum};
+ghost use Rattle.px_value.specs.Answer.{AnswersBy};
+ghost use Rattle.px_value.specs.Kind.{Kind, slot_fits, slots_fit};
+ghost use Rattle.px_value.specs.KindView.{kind_of};
+ghost use Rattle.px_value.specs.Option.{each};
+ghost use Rattle.px_value.specs.Series.{slot_at};
+ghost use Rattle.px_value.specs.View.{slot_of, slots_of};
+ghost use Rattle.px_value.specs.declared.method.GroupByMethod.TheVariants.{Sum};
 ghost use Rattle.px_expr.specs.Built.{is_built_tree};
 ghost use Rattle.px_expr.specs.NodeView.{plan_of};
 ghost use Rattle.px_frame.specs.Cell.{value_of_cell};

@@ -1,8 +1,8 @@
 //! A group step: one row for each part of a frame by keys.
 ghost use Rattle.std.specs.Prelude.{◌≡◌, ◌+◌, ◌<◌, ◌≤◌, ◌++◌, ◌∷◌, [], None, Ok, Some, IfOk, OnOk, length, map, true};
 ghost use Rattle.std.specs.List.{flat_map, list_all};
-ghost use Rattle.px_column.specs.Answer.{Answers};
-ghost use Rattle.px_column.specs.Option.{each};
+ghost use Rattle.px_value.specs.Answer.{Answers};
+ghost use Rattle.px_value.specs.Option.{each};
 ghost use Rattle.px_expr.specs.Built.{is_built_tree};
 ghost use Rattle.px_frame.specs.Aggregate.{has_row};
 ghost use Rattle.px_frame.specs.External.{alone};

@@ -1,6 +1,6 @@
 //! What is written for an input.
 ghost use Rattle.std.specs.Prelude.{◌≡◌, ℕ, List, IfOk, OnOk};
-ghost use Rattle.px_column.specs.declared.error.PxError.TheVariants.{OutOfMemory};
+ghost use Rattle.px_value.specs.declared.error.PxError.TheVariants.{OutOfMemory};
 ghost use Rattle.px_frame.specs.Frame.{height_of};
 ghost use Rattle.px_steps.specs.Label.{line_of};
 ghost use Rattle.px_steps.specs.Replies.{Grouped, Replies};

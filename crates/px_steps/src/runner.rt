@@ -1,7 +1,7 @@
 //! Steps run one after another.
 ghost use Rattle.std.specs.Prelude.{◌≡◌, ◌+◌, Some, IfOk, IfErr, OnOk, map, true};
 ghost use Rattle.std.specs.List.{list_all};
-ghost use Rattle.px_column.specs.declared.error.PxError.TheVariants.{OutOfMemory};
+ghost use Rattle.px_value.specs.declared.error.PxError.TheVariants.{OutOfMemory};
 ghost use Rattle.px_frame.specs.External.{alone};
 ghost use Rattle.px_steps.specs.Built.{is_built};
 ghost use Rattle.px_steps.specs.Causes.{AreSound, IsCauseIn, StepAnswers, StepsAnswer};

@@ -1,7 +1,7 @@
 //! A select step: the columns of some expressions, side by side.
 ghost use Rattle.std.specs.Prelude.{◌≡◌, [], Some, IfOk, IfErr, OnOk, map, true};
 ghost use Rattle.std.specs.List.{flat_map, list_all};
-ghost use Rattle.px_column.specs.Option.{each};
+ghost use Rattle.px_value.specs.Option.{each};
 ghost use Rattle.px_expr.specs.Built.{is_built_tree};
 ghost use Rattle.px_expr.specs.NodeView.{plan_of};
 ghost use Rattle.px_expr.specs.Plan.{planned_over};

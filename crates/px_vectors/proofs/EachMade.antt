@@ -1,7 +1,7 @@
 -- What is made of each item, where all of it is made.
 use Rattle.std.proofs.Common.{◌≡◌, Bool, true, ◌&&◌, List, [], ◌∷◌, Option, Some, None, map, refl, ◌∙◌, ap, option_map, option_and_then}
 use Rattle.std.specs.List.{list_all}
-use Rattle.px_column.specs.Option.{each}
+use Rattle.px_value.specs.Option.{each}
 
 record IsNext {B : Type 0} (o : Option B) (r : Option (List B)) (ys : List B) : Type 0 where
   item : B

@@ -1,6 +1,6 @@
 -- What an answer tells of its value.
 use Rattle.std.proofs.Common.{◌≡◌, Result, Ok}
-use Rattle.px_column.specs.declared.error.PxError.{PxError}
+use Rattle.px_value.specs.declared.error.PxError.{PxError}
 
 abbrev Same : {X : Type 0} → Result X PxError → Result X PxError → Type 0
 Same a b = a ≡ b

@@ -1,16 +1,16 @@
 -- Frames, expressions and steps of every kind, of which the examples speak.
 use Rattle.std.specs.Prelude.{ℕ, zero, suc, negsuc, Bool, true, false, List, [], ◌∷◌, Option, Some, None, codes, map}
-use Rattle.px_column.specs.Datum.{boolean, integer, text, list, Slot, slots}
-use Rattle.px_column.specs.Kind.{Kind, int32s, int64s, strings, nulls}
-use Rattle.px_column.specs.Series.{Series}
-use Rattle.px_column.specs.declared.cast_options.CastOptions.TheVariants.{Strict}
-use Rattle.px_column.specs.declared.error.PxError.{PxError}
-use Rattle.px_column.specs.declared.error.PxError.TheVariants.{InvalidOperation, ComputeError}
-use Rattle.px_column.specs.declared.error.InvalidWhy.{InvalidWhy}
-use Rattle.px_column.specs.declared.error.ComputeWhy.{ComputeWhy}
-use Rattle.px_column.specs.declared.method.GroupByMethod.TheVariants as method
-use Rattle.px_column.specs.declared.operator.Operator.TheVariants.{Multiply, Gt}
-use Rattle.px_column.specs.declared.sort_options.SortOptions.{SortOptions}
+use Rattle.px_value.specs.Datum.{boolean, integer, text, list, Slot, slots}
+use Rattle.px_value.specs.Kind.{Kind, int32s, int64s, strings, nulls}
+use Rattle.px_value.specs.Series.{Series}
+use Rattle.px_value.specs.declared.cast_options.CastOptions.TheVariants.{Strict}
+use Rattle.px_value.specs.declared.error.PxError.{PxError}
+use Rattle.px_value.specs.declared.error.PxError.TheVariants.{InvalidOperation, ComputeError}
+use Rattle.px_value.specs.declared.error.InvalidWhy.{InvalidWhy}
+use Rattle.px_value.specs.declared.error.ComputeWhy.{ComputeWhy}
+use Rattle.px_value.specs.declared.method.GroupByMethod.TheVariants as method
+use Rattle.px_value.specs.declared.operator.Operator.TheVariants.{Multiply, Gt}
+use Rattle.px_value.specs.declared.sort_options.SortOptions.{SortOptions}
 use Rattle.px_frame.specs.External.{Frame, alone}
 use Rattle.px_plan.specs.Tree.{Tree, single, no_trees, one_tree, no_order, column, literal, alias, binary, cast, function, agg, len, window}
 use Rattle.px_plan.specs.declared.function.FunctionExpr.TheVariants.{Explode, IsNotNull, Reverse}

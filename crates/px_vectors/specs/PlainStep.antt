@@ -1,6 +1,6 @@
 -- A group step by columns, and the rows of its parts.
 use Rattle.std.specs.Prelude.{◌≡◌, ℕ, ◌^◌, ◌<◌, true, length, List, None, map}
-use Rattle.px_column.specs.declared.method.GroupByMethod.TheVariants as method
+use Rattle.px_value.specs.declared.method.GroupByMethod.TheVariants as method
 use Rattle.px_frame.specs.Frame.{are_below}
 use Rattle.px_plan.specs.Tree.{Tree, column, agg, len}
 use Rattle.px_steps.specs.Step.{PlainStep, group}

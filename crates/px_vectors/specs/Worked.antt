@@ -1,9 +1,9 @@
 -- Small frames of integers and what is done with them, of which the worked examples speak.
 use Rattle.std.specs.Prelude.{ℕ, pos, List, [], ◌∷◌, Some, None, codes}
-use Rattle.px_column.specs.Datum.{integer, Slot}
-use Rattle.px_column.specs.Kind.{int64s, uint32s}
-use Rattle.px_column.specs.Series.{Series}
-use Rattle.px_column.specs.declared.method.GroupByMethod.TheVariants.{Sum}
+use Rattle.px_value.specs.Datum.{integer, Slot}
+use Rattle.px_value.specs.Kind.{int64s, uint32s}
+use Rattle.px_value.specs.Series.{Series}
+use Rattle.px_value.specs.declared.method.GroupByMethod.TheVariants.{Sum}
 use Rattle.px_plan.specs.Tree.{Tree, column, agg, len}
 use Rattle.px_steps.specs.Step.{PlainStep, group}
 

@@ -1,14 +1,14 @@
 //! Examples of steps of every kind that the definitions compute to. A function here does nothing: its
 //! clauses are the examples.
 ghost use Rattle.std.specs.Prelude.{◌≡◌, pos, negsuc, true, false, [], ◌∷◌, Some, None, codes};
-ghost use Rattle.px_column.specs.Datum.{integer, list, slots};
-ghost use Rattle.px_column.specs.Kind.{booleans, int8s, int32s, int64s, uint8s, uint32s, strings, lists};
-ghost use Rattle.px_column.specs.declared.cast_options.CastOptions.TheVariants.{Strict};
-ghost use Rattle.px_column.specs.declared.error.ComputeWhy.TheVariants.{AggLiteral, AggScalar, SingleIndex, NotPartitionSafe, SliceArgument, NullIndex, RangeBound, WindowLength, ChunkLengths};
-ghost use Rattle.px_column.specs.declared.error.InvalidWhy.TheVariants.{WindowOnGroups, AggAboveImplode, ScalarOnGroups, ListKey, RangeType, Types, CastLost};
-ghost use Rattle.px_column.specs.declared.error.PxError.TheVariants.{ColumnNotFound, Duplicate, InvalidOperation, ComputeError, OutOfBounds, ShapeMismatch, SchemaMismatch};
-ghost use Rattle.px_column.specs.declared.method.GroupByMethod.TheVariants as method;
-ghost use Rattle.px_column.specs.declared.operator.Operator.TheVariants.{Plus, NotEq, Minus};
+ghost use Rattle.px_value.specs.Datum.{integer, list, slots};
+ghost use Rattle.px_value.specs.Kind.{booleans, int8s, int32s, int64s, uint8s, uint32s, strings, lists};
+ghost use Rattle.px_value.specs.declared.cast_options.CastOptions.TheVariants.{Strict};
+ghost use Rattle.px_value.specs.declared.error.ComputeWhy.TheVariants.{AggLiteral, AggScalar, SingleIndex, NotPartitionSafe, SliceArgument, NullIndex, RangeBound, WindowLength, ChunkLengths};
+ghost use Rattle.px_value.specs.declared.error.InvalidWhy.TheVariants.{WindowOnGroups, AggAboveImplode, ScalarOnGroups, ListKey, RangeType, Types, CastLost};
+ghost use Rattle.px_value.specs.declared.error.PxError.TheVariants.{ColumnNotFound, Duplicate, InvalidOperation, ComputeError, OutOfBounds, ShapeMismatch, SchemaMismatch};
+ghost use Rattle.px_value.specs.declared.method.GroupByMethod.TheVariants as method;
+ghost use Rattle.px_value.specs.declared.operator.Operator.TheVariants.{Plus, NotEq, Minus};
 ghost use Rattle.px_frame.specs.External.{alone};
 ghost use Rattle.px_plan.specs.Tree.{single, range, series, no_trees, one_tree, no_order, ordered, column, literal, binary, cast, function, filter, slice, gather, sort, sort_by, agg, len, window};
 ghost use Rattle.px_plan.specs.declared.function.FunctionExpr.TheVariants.{IsIn};

@@ -2,12 +2,12 @@
 //! examples.
 ghost use Rattle.std.specs.Prelude.{◌≡◌, pos, negsuc, true, false, [], ◌∷◌, Some, None, codes, option_and_then};
 ghost use Rattle.serde_json.specs.Read.{read};
-ghost use Rattle.px_column.specs.Datum.{boolean, bytes};
-ghost use Rattle.px_column.specs.Kind.{binaries, booleans, int32s, int64s, nulls, strings, uint8s};
-ghost use Rattle.px_column.specs.declared.cast_options.CastOptions.TheVariants.{NonStrict};
-ghost use Rattle.px_column.specs.declared.closed_interval.ClosedInterval.TheVariants.{Left};
-ghost use Rattle.px_column.specs.declared.method.GroupByMethod.TheVariants.{Count, Max};
-ghost use Rattle.px_column.specs.declared.operator.Operator.TheVariants.{FloorDivide};
+ghost use Rattle.px_value.specs.Datum.{boolean, bytes};
+ghost use Rattle.px_value.specs.Kind.{binaries, booleans, int32s, int64s, nulls, strings, uint8s};
+ghost use Rattle.px_value.specs.declared.cast_options.CastOptions.TheVariants.{NonStrict};
+ghost use Rattle.px_value.specs.declared.closed_interval.ClosedInterval.TheVariants.{Left};
+ghost use Rattle.px_value.specs.declared.method.GroupByMethod.TheVariants.{Count, Max};
+ghost use Rattle.px_value.specs.declared.operator.Operator.TheVariants.{FloorDivide};
 ghost use Rattle.px_plan.specs.Tree.{single, range, series, no_trees, one_tree, no_order, ordered, column, literal, alias, binary, ternary, cast, function, filter, slice, gather, sort, sort_by, agg, len, window};
 ghost use Rattle.px_plan.specs.declared.function.FunctionExpr.TheVariants.{Explode, IsBetween, IsIn, IsNull, Shift};
 ghost use Rattle.px_plan.specs.declared.window.WindowMapping.TheVariants.{Join};

@@ -1,14 +1,14 @@
 //! What each expression answers on the frame of four rows. A function here does nothing: its clauses are
 //! the examples.
 ghost use Rattle.std.specs.Prelude.{◌≡◌, pos, negsuc, true, false, [], ◌∷◌, Some, None, codes};
-ghost use Rattle.px_column.specs.Datum.{integer, list, slots};
-ghost use Rattle.px_column.specs.Kind.{int64s, lists, strings};
-ghost use Rattle.px_column.specs.declared.cast_options.CastOptions.TheVariants.{Strict};
-ghost use Rattle.px_column.specs.declared.closed_interval.ClosedInterval.TheVariants.{Both};
-ghost use Rattle.px_column.specs.declared.error.ComputeWhy.TheVariants.{SliceArgument};
-ghost use Rattle.px_column.specs.declared.error.PxError.TheVariants.{ComputeError, OutOfBounds, ShapeMismatch};
-ghost use Rattle.px_column.specs.declared.method.GroupByMethod.TheVariants as method;
-ghost use Rattle.px_column.specs.declared.operator.Operator.TheVariants.{Plus};
+ghost use Rattle.px_value.specs.Datum.{integer, list, slots};
+ghost use Rattle.px_value.specs.Kind.{int64s, lists, strings};
+ghost use Rattle.px_value.specs.declared.cast_options.CastOptions.TheVariants.{Strict};
+ghost use Rattle.px_value.specs.declared.closed_interval.ClosedInterval.TheVariants.{Both};
+ghost use Rattle.px_value.specs.declared.error.ComputeWhy.TheVariants.{SliceArgument};
+ghost use Rattle.px_value.specs.declared.error.PxError.TheVariants.{ComputeError, OutOfBounds, ShapeMismatch};
+ghost use Rattle.px_value.specs.declared.method.GroupByMethod.TheVariants as method;
+ghost use Rattle.px_value.specs.declared.operator.Operator.TheVariants.{Plus};
 ghost use Rattle.px_frame.specs.Cell.{unit, rows};
 ghost use Rattle.px_frame.specs.External.{alone};
 ghost use Rattle.px_plan.specs.Tree.{single, range, series, no_trees, one_tree, column, literal, alias, binary, ternary, cast, function, filter, slice, gather, sort, sort_by, agg, len};

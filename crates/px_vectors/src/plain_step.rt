@@ -2,12 +2,12 @@
 ghost use Rattle.std.specs.Prelude.{◌≡◌, ◌<◌, ◌^◌, [], ◌∷◌, Ok, Some, None, IfOk, List, ℕ, length, map, true, vec_len};
 ghost use Rattle.std.specs.List.{All, flat_map, range_with_len};
 ghost use Rattle.std.specs.Option.{option_map_or};
-ghost use Rattle.px_column.specs.Answer.{Answers, AnswersBy};
-ghost use Rattle.px_column.specs.Kind.{Kind, slot_fits, slots_fit};
-ghost use Rattle.px_column.specs.KindView.{kind_of};
-ghost use Rattle.px_column.specs.Series.{slot_at};
-ghost use Rattle.px_column.specs.Sum.{sum_kind, summed};
-ghost use Rattle.px_column.specs.View.{slot_of, slots_of};
+ghost use Rattle.px_value.specs.Answer.{Answers, AnswersBy};
+ghost use Rattle.px_value.specs.Kind.{Kind, slot_fits, slots_fit};
+ghost use Rattle.px_value.specs.KindView.{kind_of};
+ghost use Rattle.px_value.specs.Series.{slot_at};
+ghost use Rattle.px_operation.specs.Sum.{sum_kind, summed};
+ghost use Rattle.px_value.specs.View.{slot_of, slots_of};
 ghost use Rattle.px_frame.specs.Cell.{value_of_cell};
 ghost use Rattle.px_frame.specs.External.{alone};
 ghost use Rattle.px_frame.specs.Frame.{are_below, height_of, series_at, slots_at, subframe};
@@ -16,14 +16,15 @@ ghost use Rattle.px_steps.specs.Direct as direct;
 ghost use Rattle.px_steps.specs.Direct.{kind_on, value_on, agg_refusals, aggregated_on, columns_on, key_on, key_refusals, step_on, value_on_part};
 ghost use Rattle.px_plan.specs.Shape.{name_of};
 ghost use Rattle.px_plan.specs.Tree.{column};
-ghost use Rattle.px_column.specs.Option.{each};
+ghost use Rattle.px_value.specs.Option.{each};
 ghost use Rattle.px_steps.specs.Meets.{Meets, MeetsBy};
 ghost use Rattle.px_steps.specs.Plain.{columns_made, key_values, step_refusals};
 ghost use Rattle.px_vectors.specs.PlainStep.{IsPart, step_by, tree_of};
 
 use crate::plain::plain_parts;
-use px_column::kernels::sum::wrapped_sum;
-use px_column::{Column, ComputeWhy, DataType, InvalidWhy, Name, Px, PxError, Value};
+use px_column::{
+    Column, ComputeWhy, DataType, InvalidWhy, Name, Px, PxError, Value, sum_type, wrapped_sum,
+};
 use px_frame::DataFrame;
 use std::alloc::Global;
 
@@ -156,7 +157,7 @@ fn sum_of(alloc: Global, column: &Column) -> Px<Option<Value>>
     ensures sum { AnswersBy slot_of result (Ok (option_map_or (λ k. summed k column.now.slots) (sum_kind column.now.kind) None)) }
     ensures fits { IfOk result (λ v. (k : Kind) → sum_kind column.now.kind ≡ Some k → slot_fits k (slot_of v) ≡ true) }
 {
-    let Some(dtype) = column.dtype().sum_type() else {
+    let Some(dtype) = sum_type(column.dtype()) else {
         return Ok(None);
     };
     let rows = all_rows(alloc, column.len())?;
@@ -186,10 +187,9 @@ fn type_on(alloc: Global, frame: &DataFrame, agg: &Aggregation) -> Px<DataType>
         Aggregation::Len => Ok(DataType::UInt32),
         Aggregation::Sum(name) => match frame.column(name) {
             None => Err(PxError::ColumnNotFound(name.try_clone(alloc)?)),
-            Some(column) => column
-                .dtype()
-                .sum_type()
-                .ok_or(PxError::InvalidOperation(InvalidWhy::Types)),
+            Some(column) => {
+                sum_type(column.dtype()).ok_or(PxError::InvalidOperation(InvalidWhy::Types))
+            }
         },
     }
 }

@@ -1,6 +1,6 @@
 //! The state of an evaluation.
 ghost use Rattle.std.specs.Prelude.{◌≡◌, Some, None, IfOk, IfErr, option_map, if◌then◌else◌};
-ghost use Rattle.px_column.specs.declared.error.PxError.TheVariants.{OutOfMemory};
+ghost use Rattle.px_value.specs.declared.error.PxError.TheVariants.{OutOfMemory};
 ghost use Rattle.px_window.specs.Flags.{is_set, with_flag, without_flag, verbose_bit, cache_window_bit, has_window_bit};
 
 use crate::flags::StateFlags;

@@ -1,12 +1,12 @@
 //! The number of distinct rows of a column, by a table of those seen so far.
 ghost use Rattle.std.specs.Prelude.{◌≡◌, Ok, length};
-ghost use Rattle.px_column.specs.Answer.{Answers};
-ghost use Rattle.px_column.specs.Reduction.{distinct_slots};
+ghost use Rattle.px_value.specs.Answer.{Answers};
+ghost use Rattle.px_operation.specs.Reduction.{distinct_slots};
 
 use crate::column::Column;
-use crate::error::Px;
 use crate::row_key::RowKey;
 use indexmap::IndexSet;
+use px_value::Px;
 use std::alloc::Global;
 use std::slice;
 

@@ -2,12 +2,12 @@
 ghost use Rattle.std.specs.Prelude.{◌≡◌};
 ghost use Rattle.std.specs.List.{reduce};
 ghost use Rattle.std.specs.Ordering.{ord_min, ord_max};
-ghost use Rattle.px_column.specs.LentView.{slot_of_ref};
-ghost use Rattle.px_column.specs.Order.{datum_cmp};
-ghost use Rattle.px_column.specs.Reduction.{better, values_of};
+ghost use Rattle.px_value.specs.LentView.{slot_of_ref};
+ghost use Rattle.px_value.specs.Order.{datum_cmp};
+ghost use Rattle.px_operation.specs.Reduction.{better, values_of};
 
 use crate::column::Column;
-use crate::value_ref::ValueRef;
+use px_value::ValueRef;
 
 /// The lesser of two values, which is the first one where neither is less; a null is passed over.
 fn lesser<'a>(best: Option<ValueRef<'a>>, other: Option<ValueRef<'a>>) -> Option<ValueRef<'a>>

@@ -1,55 +1,16 @@
 //! Reductions: all rows of a column become one value.
 ghost use Rattle.std.specs.Prelude.{◌≡◌, ◌+◌, Ok, Some};
-ghost use Rattle.px_column.specs.Answer.{Answers, AnswersBy};
-ghost use Rattle.px_column.specs.Datum.{list, slots};
-ghost use Rattle.px_column.specs.KindView.{kind_of};
-ghost use Rattle.px_column.specs.Reduction.{count_slot, reduced, reduced_kind, reduced_slot, row_count, unless_list};
-ghost use Rattle.px_column.specs.View.{slot_of};
+ghost use Rattle.px_value.specs.Answer.{Answers, AnswersBy};
+ghost use Rattle.px_value.specs.Datum.{list, slots};
+ghost use Rattle.px_value.specs.KindView.{kind_of};
+ghost use Rattle.px_operation.specs.Reduction.{count_slot, reduced, reduced_kind, reduced_slot, row_count};
+ghost use Rattle.px_value.specs.View.{slot_of};
 
-use crate::column::{Column, copy_slots};
-use crate::data_type::DataType;
-use crate::error::{InvalidWhy, Px, PxError};
-use crate::method::GroupByMethod;
-use crate::steps::Steps;
-use crate::value::{Value, Values};
-use crate::value_ref::copy_slot;
+use crate::column::Column;
+use px_operation::reduced_type;
+use px_value::{DataType, GroupByMethod, Px, Steps, Value, Values, copy_slot, copy_slots};
 use std::alloc::Global;
 use std::sync::ledger::Ledger;
-
-impl DataType {
-    /// The type of a reduction of such values: `ListKey` where lists would be compared, `Types` where
-    /// the values cannot be summed.
-    pub fn reduced_type(&self, alloc: Global, method: GroupByMethod) -> Px<DataType>
-        ensures { AnswersBy kind_of result (reduced_kind method (kind_of self.now)) }
-    {
-        match method {
-            GroupByMethod::Min | GroupByMethod::Max => self.compared_type(self.try_clone(alloc)?),
-            GroupByMethod::NUnique => self.compared_type(DataType::UInt32),
-            GroupByMethod::Sum => {
-                match self.sum_type() {
-                    Some(dtype) => Ok(dtype),
-                    None => Err(PxError::InvalidOperation(InvalidWhy::Types)),
-                }
-            }
-            GroupByMethod::First | GroupByMethod::Last => self.try_clone(alloc),
-            GroupByMethod::Count { include_nulls: _ } => Ok(DataType::UInt32),
-            GroupByMethod::Implode => {
-                Ok(DataType::List(Box::new(alloc, self.try_clone(alloc)?)?))
-            }
-        }
-    }
-
-    /// The type of what is made by comparing such values.
-    fn compared_type(&self, made: DataType) -> Px<DataType>
-        ensures { AnswersBy kind_of result (unless_list (kind_of self.now) (kind_of made)) }
-    {
-        if self.is_list() {
-            Err(PxError::InvalidOperation(InvalidWhy::ListKey))
-        } else {
-            Ok(made)
-        }
-    }
-}
 
 /// A number of rows.
 fn count(rows: u32) -> Option<Value>
@@ -69,6 +30,13 @@ impl Column {
         } else {
             self.len() - self.null_count()
         }
+    }
+
+    /// The type of a reduction of all rows.
+    fn reduced_type(&self, alloc: Global, method: GroupByMethod) -> Px<DataType>
+        ensures { AnswersBy kind_of result (reduced_kind method self.now.kind) }
+    {
+        reduced_type(alloc, method, self.dtype().try_clone(alloc)?)
     }
 
     /// The list of all rows.
@@ -108,7 +76,7 @@ impl Column {
         ensures ticks { kernels.new ≡ kernels.old + 1 }
     {
         kernels.tick();
-        let dtype = self.dtype().reduced_type(alloc, method)?;
+        let dtype = self.reduced_type(alloc, method)?;
         let mut rows = Vec::with_capacity(alloc, 1)?;
         rows.push(self.reduced(alloc, method, &dtype)?)?;
         self.with_rows(alloc, dtype, rows)

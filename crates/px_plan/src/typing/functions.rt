@@ -1,9 +1,9 @@
 //! What typing finds of a function, from what it found of the inputs.
 ghost use Rattle.std.specs.Prelude.{◌≡◌, not};
 ghost use Rattle.std.specs.List.{list_any};
-ghost use Rattle.px_column.specs.Answer.{AnswersBy};
-ghost use Rattle.px_column.specs.Kind.{kind_eq};
-ghost use Rattle.px_column.specs.KindView.{kind_of};
+ghost use Rattle.px_value.specs.Answer.{AnswersBy};
+ghost use Rattle.px_value.specs.Kind.{kind_eq};
+ghost use Rattle.px_value.specs.KindView.{kind_of};
 ghost use Rattle.px_plan.specs.Facts.{kinds_of, takes_rows, is_null_count, is_unit_of_one, one_input_facts, compared_all, compared_facts, only, function_facts};
 ghost use Rattle.px_plan.specs.FactsView.{facts_of, all_facts_of};
 
@@ -12,8 +12,8 @@ use crate::function::FunctionExpr;
 use crate::typing::typed::{
     Typed, all_literals, all_units, any_implode, have_list, is_first_unit, is_scalar,
 };
-use crate::typing::types::{same_type, type_of_one, type_where};
-use px_column::{DataType, InvalidWhy, Px, PxError};
+use crate::typing::types::type_of_one;
+use px_column::{DataType, InvalidWhy, Px, PxError, same_type, type_where};
 
 /// Whether a function changes how many rows there are, or their order.
 fn takes_rows(function: FunctionExpr) -> bool

@@ -1,7 +1,7 @@
 //! What typing finds of an expression, from what it found of the inputs.
 ghost use Rattle.std.specs.Prelude.{◌≡◌, Ok, not, option_map};
-ghost use Rattle.px_column.specs.Answer.{AnswersBy};
-ghost use Rattle.px_column.specs.KindView.{kind_of};
+ghost use Rattle.px_value.specs.Answer.{AnswersBy};
+ghost use Rattle.px_value.specs.KindView.{kind_of};
 ghost use Rattle.px_plan.specs.Facts.{column_facts, is_typed_literal, literal_facts, binary_facts, ternary_facts, cast_facts, filter_facts, slice_facts, gather_facts, sort_facts, sort_by_facts, agg_facts, window_facts, len_facts, is_list_order, is_literal_key, is_implode_key};
 ghost use Rattle.px_plan.specs.FactsView.{facts_of, all_facts_of};
 ghost use Rattle.px_plan.specs.Typing.{kind_of_name, literal_kind};
@@ -11,12 +11,12 @@ ghost use Rattle.px_plan.specs.View.{literal_of, mapping_of};
 use crate::context::Context;
 use crate::literal::LiteralValue;
 use crate::typing::typed::{Typed, all_literals, any_implode, have_list, is_scalar};
-use crate::typing::types::{
-    cast_type, is_boolean, is_integer, is_integer_or_null, is_range_type, operator_type,
-    reduced_type, same_type, window_type,
-};
+use crate::typing::types::{is_integer_or_null, is_range_type, window_type};
 use crate::window::WindowType;
-use px_column::{ComputeWhy, DataType, GroupByMethod, InvalidWhy, Name, Operator, Px, PxError};
+use px_column::{
+    ComputeWhy, DataType, GroupByMethod, InvalidWhy, Name, Operator, Px, PxError, cast_type, is_boolean,
+    is_integer, operator_type, reduced_type, same_type,
+};
 use px_frame::Schema;
 use std::alloc::Global;
 

@@ -2,11 +2,11 @@
 ghost use Rattle.std.specs.Prelude.{◌≡◌, map, option_map, option_and_then};
 ghost use Rattle.serde_json.specs.Find.{as_number, as_str, as_integer};
 ghost use Rattle.serde_json.specs.View.{view};
-ghost use Rattle.px_column.specs.KindView.{kind_of};
-ghost use Rattle.px_column.specs.View.{datum_of, slot_of, slots_of};
+ghost use Rattle.px_value.specs.KindView.{kind_of};
+ghost use Rattle.px_value.specs.View.{datum_of, slot_of, slots_of};
 ghost use Rattle.px_steps.specs.Document.{bytes_of_hex, list_of, place_of};
 ghost use Rattle.px_steps.specs.Form.{Reads, ReadsBy, items};
-ghost use Rattle.px_column.specs.Option.{each};
+ghost use Rattle.px_value.specs.Option.{each};
 
 use crate::document::fault::DocumentFault;
 use crate::document::fields::{items, read_text};

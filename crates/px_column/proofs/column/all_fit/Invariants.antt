@@ -1,7 +1,7 @@
 use Rattle.std.proofs.Common.{◌≡◌, drop}
-use Rattle.px_column.specs.Kind.{slots_fit}
-use Rattle.px_column.specs.KindView.{kind_of}
-use Rattle.px_column.specs.View.{slots_of}
+use Rattle.px_value.specs.Kind.{slots_fit}
+use Rattle.px_value.specs.KindView.{kind_of}
+use Rattle.px_value.specs.View.{slots_of}
 use Rattle.px_column.proofs.column.all_fit.Given as goal
 
 abbrev pub invariant-loop-row : goal.invariant-loop-row

@@ -1,6 +1,6 @@
 use Rattle.std.proofs.Common.{◌≡◌, ◌+◌, ◌≤◌, drop}
 use Rattle.px_column.specs.Column.{null_count}
-use Rattle.px_column.specs.View.{slots_of}
+use Rattle.px_value.specs.View.{slots_of}
 use Rattle.px_column.proofs.column.count_nulls.Given as goal
 
 abbrev pub invariant-loop-row : goal.invariant-loop-row

@@ -1,6 +1,6 @@
 use Rattle.std.proofs.Common.{◌≡◌, replicate}
-use Rattle.px_column.specs.LentView.{slot_of_ref}
-use Rattle.px_column.specs.View.{slots_of}
+use Rattle.px_value.specs.LentView.{slot_of_ref}
+use Rattle.px_value.specs.View.{slots_of}
 use Rattle.px_column.proofs.repeat.copies.Given as goal
 
 abbrev pub invariant-loop : goal.invariant-loop

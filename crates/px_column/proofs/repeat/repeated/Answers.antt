@@ -1,7 +1,7 @@
 use Rattle.std.proofs.Common.{◌≡◌, replicate}
-use Rattle.px_column.specs.KindView.{kind_of}
-use Rattle.px_column.specs.LentView.{slot_of_ref}
-use Rattle.px_column.specs.View.{slots_of}
+use Rattle.px_value.specs.KindView.{kind_of}
+use Rattle.px_value.specs.LentView.{slot_of_ref}
+use Rattle.px_value.specs.View.{slots_of}
 use Rattle.px_column.proofs.Fitting.{fits_repeated}
 use Rattle.px_column.proofs.repeat.repeated.Goals as goal
 

@@ -1,5 +1,5 @@
 use Rattle.std.proofs.Common.{◌≡◌, ◌-◌, ◌≤◌, length, drop, fold}
-use Rattle.px_column.specs.Hashing.{row_hash}
+use Rattle.px_value.specs.Hashing.{row_hash}
 use Rattle.px_column.specs.Key.{key_at}
 use Rattle.px_column.proofs.row_key.hash_row.Given as goal
 

@@ -1,5 +1,5 @@
 use Rattle.std.proofs.Common.{◌≡◌, ◌-◌, ◌≤◌, length, drop}
-use Rattle.px_column.specs.Equality.{row_eq}
+use Rattle.px_value.specs.Equality.{row_eq}
 use Rattle.px_column.specs.Key.{key_at}
 use Rattle.px_column.proofs.row_key.same_rows.Given as goal
 

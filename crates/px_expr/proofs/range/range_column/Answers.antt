@@ -1,8 +1,8 @@
 use Rattle.std.proofs.Common.{rules, ◌≡◌, ◌&&◌, ◌-ℤ◌, ◌^◌, true, nat_lt}
-use Rattle.px_column.specs.Datum.{integer}
-use Rattle.px_column.specs.Kind.{fits}
-use Rattle.px_column.specs.KindView.{kind_of}
-use Rattle.px_column.specs.View.{slots_of}
+use Rattle.px_value.specs.Datum.{integer}
+use Rattle.px_value.specs.Kind.{fits}
+use Rattle.px_value.specs.KindView.{kind_of}
+use Rattle.px_value.specs.View.{slots_of}
 use Rattle.px_plan.specs.Node.{integers, natural}
 use Rattle.px_plan.specs.Typing.{is_range_kind}
 use Rattle.px_expr.proofs.Ranges.{range_made, few_enough, count_is}

@@ -1,6 +1,6 @@
 use Rattle.std.proofs.Common.{◌≡◌, ◌<◌, ◌++◌, length, map, Ok, ap, ◌∙◌, arith}
 use Rattle.std.proofs.lemmas.Grind.{common_steps}
-use Rattle.px_column.specs.declared.error.PxError.{PxError}
+use Rattle.px_value.specs.declared.error.PxError.{PxError}
 use Rattle.px_plan.proofs.Adding.{OnErr-of, AddsFront-more, AddsFront-after, added_twice, added_thrice, kept, kept_all, kept_last, last_below, longer, window_below, made_of_two, made_of_three, made_with_list, made_with_order, all_below_later, all_below_push, postorder-children, seen_postorder, seen_rest, seen_part, more_part, placed}
 use Rattle.px_plan.proofs.Shapes.{tree-BinaryExpr, tree-Ternary, tree-Filter, tree-Slice, tree-Gather, tree-SortBy, tree-Window}
 use Rattle.px_plan.proofs.Views.{trees_is}

@@ -1,5 +1,5 @@
 use Rattle.std.proofs.Common.{◌≡◌, ◌∙◌, ap, refl, subst, sym}
-use Rattle.px_column.specs.declared.method.GroupByMethod.TheVariants.{Sum}
+use Rattle.px_value.specs.declared.method.GroupByMethod.TheVariants.{Sum}
 use Rattle.px_frame.specs.External.{alone}
 use Rattle.px_frame.specs.Groups.{rows_of}
 use Rattle.px_plan.specs.Size.{size_on}

@@ -1,8 +1,8 @@
 use Rattle.std.proofs.Common.{◌≡◌, ◌∙◌, ap, map, option_map, sym}
-use Rattle.px_column.specs.Kind.{slots_fit}
-use Rattle.px_column.specs.KindView.{kind_of}
-use Rattle.px_column.specs.Option.{each}
-use Rattle.px_column.specs.View.{slots_of}
+use Rattle.px_value.specs.Kind.{slots_fit}
+use Rattle.px_value.specs.KindView.{kind_of}
+use Rattle.px_value.specs.Option.{each}
+use Rattle.px_value.specs.View.{slots_of}
 use Rattle.px_expr.specs.NodeView.{plan_of}
 use Rattle.px_expr.specs.Plan.{planned_over}
 use Rattle.px_expr.specs.Planned.{Planned}

@@ -1,7 +1,7 @@
 use Rattle.std.proofs.Common.{◌≡◌, ◌∙◌, List, ap, sym, subst, option_map}
 use Rattle.std.proofs.lemmas.Result.{err_from_is_err_and}
-use Rattle.px_column.specs.Series.{Series}
-use Rattle.px_column.specs.View.{slot_of}
+use Rattle.px_value.specs.Series.{Series}
+use Rattle.px_value.specs.View.{slot_of}
 use Rattle.px_expr.specs.NodeView.{plan_of}
 use Rattle.px_expr.specs.Value.{IsCause}
 use Rattle.px_frame.specs.Cell.{value_of_cell}

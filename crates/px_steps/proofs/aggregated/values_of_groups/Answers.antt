@@ -2,8 +2,8 @@ use Rattle.std.proofs.Common.{◌≡◌, ◌∷◌, ◌++◌, [], ◌∙◌, Lis
 use Rattle.std.proofs.lemmas.List.{map_push}
 use Rattle.std.proofs.lemmas.Option.{get_or_from_slice_get, slice_get_within}
 use Rattle.std.proofs.lemmas.Result.{err_from_is_err_and}
-use Rattle.px_column.specs.Kind.{slot_fits, slots_fit}
-use Rattle.px_column.specs.View.{slot_of, slots_of}
+use Rattle.px_value.specs.Kind.{slot_fits, slots_fit}
+use Rattle.px_value.specs.View.{slot_of, slots_of}
 use Rattle.px_expr.specs.NodeView.{plan_of}
 use Rattle.px_frame.specs.External.{alone, rows_of_frame}
 use Rattle.px_frame.specs.Frame.{are_below}

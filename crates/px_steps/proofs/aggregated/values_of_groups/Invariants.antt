@@ -1,7 +1,7 @@
 use Rattle.std.proofs.Common.{◌≡◌, Some, drop, map, true, vec_len}
-use Rattle.px_column.specs.Kind.{Kind, slots_fit}
-use Rattle.px_column.specs.Option.{each}
-use Rattle.px_column.specs.View.{slots_of}
+use Rattle.px_value.specs.Kind.{Kind, slots_fit}
+use Rattle.px_value.specs.Option.{each}
+use Rattle.px_value.specs.View.{slots_of}
 use Rattle.px_expr.specs.NodeView.{plan_of}
 use Rattle.px_frame.specs.External.{alone}
 use Rattle.px_frame.specs.Groups.{rows_of}

@@ -1,6 +1,6 @@
 use Rattle.std.proofs.Common.{◌≡◌, ◌∙◌, ◌++◌, [], List, ℕ, Some, ap, map, subst, sym}
 use Rattle.std.proofs.lemmas.Result.{err_from_is_err_and}
-use Rattle.px_column.specs.declared.error.PxError.{PxError}
+use Rattle.px_value.specs.declared.error.PxError.{PxError}
 use Rattle.px_plan.specs.Shape.{name_of}
 use Rattle.px_plan.specs.View.{tree}
 use Rattle.px_steps.specs.Finds.{repeat_beside}

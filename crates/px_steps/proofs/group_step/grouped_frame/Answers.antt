@@ -1,9 +1,9 @@
 use Rattle.std.proofs.Common.{◌≡◌, ◌∙◌, List, ℕ, Result, Some, ap, map, subst, sym}
 use Rattle.std.specs.List.{flat_map}
 use Rattle.std.proofs.lemmas.Result.{err_from_is_err_and}
-use Rattle.px_column.specs.Answer.{Answers}
-use Rattle.px_column.specs.Series.{Series}
-use Rattle.px_column.specs.declared.error.PxError.{PxError}
+use Rattle.px_value.specs.Answer.{Answers}
+use Rattle.px_value.specs.Series.{Series}
+use Rattle.px_value.specs.declared.error.PxError.{PxError}
 use Rattle.px_frame.specs.Aggregate.{key_column}
 use Rattle.px_frame.specs.External.{alone}
 use Rattle.px_frame.specs.Frame.{height_of}

@@ -1,7 +1,7 @@
 use Rattle.std.proofs.Common.{◌≡◌, ◌+◌, List, Result, drop, map, true}
 use Rattle.std.specs.List.{list_all}
-use Rattle.px_column.specs.Series.{Series}
-use Rattle.px_column.specs.declared.error.PxError.{PxError}
+use Rattle.px_value.specs.Series.{Series}
+use Rattle.px_value.specs.declared.error.PxError.{PxError}
 use Rattle.px_steps.specs.Built.{is_built}
 use Rattle.px_steps.specs.Causes.{StepsAnswer}
 use Rattle.px_steps.specs.Plain.{groupings_of}

@@ -1,6 +1,6 @@
 use Rattle.std.proofs.Common.{◌≡◌, inl, inr, Some, None, codes, refl, lit<}
 use Rattle.std.specs.Int.{int_wrap}
-use Rattle.px_column.specs.declared.error.PxError.TheVariants.{ColumnNotFound}
+use Rattle.px_value.specs.declared.error.PxError.TheVariants.{ColumnNotFound}
 use Rattle.px_steps.specs.Document.{Doc}
 use Rattle.px_steps.proofs.OnLiterals.{px_steps_on_literals}
 use Rattle.px_vectors.specs.Worked.{four_grouped}

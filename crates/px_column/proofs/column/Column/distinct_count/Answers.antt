@@ -1,6 +1,6 @@
 use Rattle.std.proofs.Common.{◌≡◌, ◌∙◌, ◌<◌, ◌≤◌, Bool, true, false, cond, length, ap, arith}
 use Rattle.px_column.specs.Key.{key_at}
-use Rattle.px_column.specs.Series.{slot_at}
+use Rattle.px_value.specs.Series.{slot_at}
 use Rattle.px_column.proofs.Distinct.{row_of, distinct_row}
 use Rattle.px_column.proofs.column.Column.distinct_count.Goals as goal
 

@@ -1,5 +1,5 @@
 use Rattle.std.proofs.Common.{◌≡◌, ◌≤◌, length, map, take}
-use Rattle.px_column.specs.Reduction.{distinct_slots}
+use Rattle.px_operation.specs.Reduction.{distinct_slots}
 use Rattle.px_column.proofs.Distinct.{row_of}
 use Rattle.px_column.proofs.column.Column.distinct_count.Given as goal
 

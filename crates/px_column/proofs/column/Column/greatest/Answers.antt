@@ -1,8 +1,8 @@
 use Rattle.std.proofs.Common.{◌≡◌, ◌∙◌, ◌<◌, None, length, fold, take, ap, arith}
 use Rattle.std.proofs.lemmas.List.{take_all}
 use Rattle.std.specs.Ordering.{ord_max}
-use Rattle.px_column.specs.Order.{datum_cmp}
-use Rattle.px_column.specs.Reduction.{better}
+use Rattle.px_value.specs.Order.{datum_cmp}
+use Rattle.px_operation.specs.Reduction.{better}
 use Rattle.px_column.proofs.Extremes.{best_is}
 use Rattle.px_column.proofs.Taking.{fold_row}
 use Rattle.px_column.proofs.column.Column.greatest.Goals as goal

@@ -1,8 +1,8 @@
 use Rattle.std.proofs.Common.{◌≡◌, None, fold, take}
 use Rattle.std.specs.Ordering.{ord_min}
-use Rattle.px_column.specs.LentView.{slot_of_ref}
-use Rattle.px_column.specs.Order.{datum_cmp}
-use Rattle.px_column.specs.Reduction.{better}
+use Rattle.px_value.specs.LentView.{slot_of_ref}
+use Rattle.px_value.specs.Order.{datum_cmp}
+use Rattle.px_operation.specs.Reduction.{better}
 use Rattle.px_column.proofs.column.Column.least.Given as goal
 
 abbrev pub invariant-loop-row : goal.invariant-loop-row

@@ -1,7 +1,7 @@
 use Rattle.std.proofs.Common.{◌≡◌, ◌∷◌, [], Ok}
-use Rattle.px_column.specs.KindView.{kind_of}
-use Rattle.px_column.specs.Reduction.{reduced_kind, reduced_slot}
-use Rattle.px_column.specs.View.{slots_of}
+use Rattle.px_value.specs.KindView.{kind_of}
+use Rattle.px_operation.specs.Reduction.{reduced_kind, reduced_slot}
+use Rattle.px_value.specs.View.{slots_of}
 use Rattle.px_column.proofs.Reducing.{one_row}
 use Rattle.px_column.proofs.column.Column.reduce.Goals as goal
 

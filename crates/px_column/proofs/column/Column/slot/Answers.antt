@@ -1,6 +1,6 @@
-use Rattle.px_column.specs.KindView.{kind_of}
-use Rattle.px_column.specs.View.{slots_of}
-use Rattle.px_column.proofs.Fitting.{fits_at}
+use Rattle.px_value.specs.KindView.{kind_of}
+use Rattle.px_value.specs.View.{slots_of}
+use Rattle.px_value.specs.FitLaws.{fits_at}
 use Rattle.px_column.proofs.column.Column.slot.Goals as goal
 
 pub returns-clause-fits : goal.returns-clause-fits

@@ -1,7 +1,7 @@
 use Rattle.std.proofs.Common.{◌≡◌, map}
 use Rattle.px_column.specs.Column.{taken_at}
-use Rattle.px_column.specs.KindView.{kind_of}
-use Rattle.px_column.specs.View.{slots_of}
+use Rattle.px_value.specs.KindView.{kind_of}
+use Rattle.px_value.specs.View.{slots_of}
 use Rattle.px_column.proofs.Fitting.{taken_column}
 use Rattle.px_column.proofs.column.Column.take.Goals as goal
 

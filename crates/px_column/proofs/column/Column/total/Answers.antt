@@ -1,8 +1,8 @@
 use Rattle.std.proofs.Common.{◌≡◌, ◌∙◌, ◌<◌, ◌+ℤ◌, length, sym, ap, arith, ℤ}
 use Rattle.std.specs.Int.{w128, cast_signed, cast_unsigned}
 use Rattle.std.proofs.lemmas.Int.{ints}
-use Rattle.px_column.specs.Series.{slot_at}
-use Rattle.px_column.specs.Sum.{number_of}
+use Rattle.px_value.specs.Series.{slot_at}
+use Rattle.px_operation.specs.Sum.{number_of}
 use Rattle.px_column.proofs.Summing.{total_more}
 use Rattle.px_column.proofs.column.Column.total.Goals as goal
 

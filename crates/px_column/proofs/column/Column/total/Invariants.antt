@@ -1,5 +1,5 @@
 use Rattle.std.proofs.Common.{◌≡◌, take}
-use Rattle.px_column.specs.Sum.{total, IsWithin}
+use Rattle.px_operation.specs.Sum.{total, IsWithin}
 use Rattle.px_column.proofs.column.Column.total.Given as goal
 
 abbrev pub invariant-loop-row : goal.invariant-loop-row

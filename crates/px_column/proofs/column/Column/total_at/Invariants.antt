@@ -1,6 +1,6 @@
 use Rattle.std.proofs.Common.{◌≡◌, map, take}
-use Rattle.px_column.specs.Series.{slot_at}
-use Rattle.px_column.specs.Sum.{total, IsWithin}
+use Rattle.px_value.specs.Series.{slot_at}
+use Rattle.px_operation.specs.Sum.{total, IsWithin}
 use Rattle.px_column.proofs.column.Column.total_at.Given as goal
 
 abbrev pub invariant-loop-row : goal.invariant-loop-row

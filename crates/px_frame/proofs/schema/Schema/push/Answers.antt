@@ -1,7 +1,7 @@
 use Rattle.std.proofs.Common.{◌≡◌, ◌∙◌, ap, sym, Bool, true, false, Ok, Err, None, if◌then◌else◌}
 use Rattle.std.specs.Map.{lookup}
 use Rattle.indexmap.proofs.CallerLemmas.{insert_entry-new}
-use Rattle.px_column.specs.declared.error.PxError.TheVariants.{Duplicate}
+use Rattle.px_value.specs.declared.error.PxError.TheVariants.{Duplicate}
 use Rattle.px_frame.specs.Frame.{name_eq}
 use Rattle.px_frame.specs.Schema.{is_field_name}
 use Rattle.px_frame.proofs.Fields.{stands, none_there, distinct_entries, entry_added}

@@ -1,7 +1,7 @@
 use Rattle.std.proofs.Common.{◌≡◌, drop, not}
 use Rattle.std.specs.List.{list_any}
-use Rattle.px_column.specs.Kind.{kind_eq}
-use Rattle.px_column.specs.KindView.{kind_of}
+use Rattle.px_value.specs.Kind.{kind_eq}
+use Rattle.px_value.specs.KindView.{kind_of}
 use Rattle.px_plan.specs.Facts.{kinds_of}
 use Rattle.px_plan.specs.FactsView.{all_facts_of}
 use Rattle.px_plan.proofs.typing.functions.have_type.Given as goal

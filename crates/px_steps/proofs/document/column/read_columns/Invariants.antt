@@ -1,7 +1,7 @@
 use Rattle.std.proofs.Common.{◌≡◌, map, drop}
 use Rattle.serde_json.specs.View.{view}
 use Rattle.px_steps.specs.Document.{column_of}
-use Rattle.px_column.specs.Option.{each}
+use Rattle.px_value.specs.Option.{each}
 use Rattle.px_steps.specs.Form.{with_front}
 use Rattle.px_steps.proofs.document.column.read_columns.Given as goal
 

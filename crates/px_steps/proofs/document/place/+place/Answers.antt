@@ -1,9 +1,9 @@
 use Rattle.std.proofs.Common.{◌≡◌, sym, arith}
 use Rattle.std.proofs.lemmas.Grind.{common_steps}
 use Rattle.serde_json.specs.View.{view}
-use Rattle.px_column.specs.Kind.{lists}
-use Rattle.px_column.specs.KindView.{kind_of}
-use Rattle.px_column.specs.View.{datum_of}
+use Rattle.px_value.specs.Kind.{lists}
+use Rattle.px_value.specs.KindView.{kind_of}
+use Rattle.px_value.specs.View.{datum_of}
 use Rattle.px_steps.proofs.Readings.{list_taken, list_missed}
 use Rattle.px_steps.proofs.document.place.+place.Goals as goal
 

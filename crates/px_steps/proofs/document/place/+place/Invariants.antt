@@ -1,10 +1,10 @@
 use Rattle.std.proofs.Common.{◌≡◌, ◌+◌, map, drop}
 use Rattle.serde_json.specs.View.{view}
-use Rattle.px_column.specs.Kind.{kind_number}
-use Rattle.px_column.specs.KindView.{kind_of}
-use Rattle.px_column.specs.View.{slots_of}
+use Rattle.px_value.specs.Kind.{kind_number}
+use Rattle.px_value.specs.KindView.{kind_of}
+use Rattle.px_value.specs.View.{slots_of}
 use Rattle.px_steps.specs.Document.{place_of}
-use Rattle.px_column.specs.Option.{each}
+use Rattle.px_value.specs.Option.{each}
 use Rattle.px_steps.specs.Form.{with_front}
 use Rattle.px_steps.proofs.document.place.+place.Given as goal
 

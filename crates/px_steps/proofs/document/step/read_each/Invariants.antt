@@ -1,6 +1,6 @@
 use Rattle.std.proofs.Common.{◌≡◌, map, drop}
 use Rattle.serde_json.specs.View.{view}
-use Rattle.px_column.specs.Option.{each}
+use Rattle.px_value.specs.Option.{each}
 use Rattle.px_steps.specs.Form.{with_front}
 use Rattle.px_steps.specs.Readable.{only_if}
 use Rattle.px_steps.specs.Built.{is_built}

@@ -1,6 +1,0 @@
-use Rattle.std.proofs.Common.{◌≡◌, take}
-use Rattle.px_column.specs.View.{slots_of}
-use Rattle.px_column.proofs.column.copy_slots.Given as goal
-
-abbrev pub invariant-loop-row : goal.invariant-loop-row
-invariant-loop-row l = slots_of l.copies.items ≡ slots_of (take l.row-index l.rows)

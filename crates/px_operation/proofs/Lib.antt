@@ -1,0 +1,5 @@
+pub mod WrapRows
+pub mod OperatorRows
+pub mod CastRows
+pub mod FunctionRows
+pub mod ReductionRows

@@ -1,0 +1,12 @@
+pub mod Wrap
+pub mod Sum
+pub mod Reduction
+pub mod Operator
+pub mod Cast
+pub mod Function
+pub mod WrapRows
+pub mod OperatorRows
+pub mod CastRows
+pub mod FunctionRows
+pub mod ReductionRows
+pub mod WrapLaws

@@ -1,0 +1,12 @@
+//! Operations on single values: the types that they take and give, and what they make of values.
+#![tactic(auto)]
+
+pub mod rows;
+mod sum;
+mod types;
+
+pub use sum::{number, wrapped_sum};
+pub use types::{
+    cast_type, is_boolean, is_cast, is_integer, operator_type, reduced_type, same_type, sum_type,
+    type_where,
+};

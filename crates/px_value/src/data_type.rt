@@ -1,0 +1,56 @@
+//! The types of columns.
+ghost use Rattle.std.specs.Prelude.{◌≡◌, Ok};
+ghost use Rattle.px_value.specs.Answer.{AnswersBy};
+ghost use Rattle.px_value.specs.Kind.{is_list_kind};
+ghost use Rattle.px_value.specs.KindView.{kind_of};
+
+use crate::error::Px;
+use std::alloc::Global;
+
+/// The type of a column's values (polars `DataType`, without its floats and its logical types).
+#[derive(Drop)]
+pub enum DataType {
+    Boolean,
+    Int8,
+    Int16,
+    Int32,
+    Int64,
+    UInt8,
+    UInt16,
+    UInt32,
+    UInt64,
+    String,
+    Binary,
+    Null,
+    List(Box<DataType>),
+}
+
+impl DataType {
+    /// Whether it is a type of lists.
+    pub fn is_list(&self) -> bool
+        ensures { result ≡ is_list_kind (kind_of self.now) }
+    {
+        matches!(self, DataType::List(_))
+    }
+
+    /// An equal type.
+    pub fn try_clone(&self, alloc: Global) -> Px<DataType>
+        ensures { AnswersBy kind_of result (Ok (kind_of self.now)) }
+    {
+        match self {
+            DataType::Boolean => Ok(DataType::Boolean),
+            DataType::Int8 => Ok(DataType::Int8),
+            DataType::Int16 => Ok(DataType::Int16),
+            DataType::Int32 => Ok(DataType::Int32),
+            DataType::Int64 => Ok(DataType::Int64),
+            DataType::UInt8 => Ok(DataType::UInt8),
+            DataType::UInt16 => Ok(DataType::UInt16),
+            DataType::UInt32 => Ok(DataType::UInt32),
+            DataType::UInt64 => Ok(DataType::UInt64),
+            DataType::String => Ok(DataType::String),
+            DataType::Binary => Ok(DataType::Binary),
+            DataType::Null => Ok(DataType::Null),
+            DataType::List(of) => Ok(DataType::List(Box::new(alloc, of.try_clone(alloc)?)?)),
+        }
+    }
+}
