@@ -1,3 +1,4 @@
 pub mod Key
+pub mod KeyLaws
 pub mod Column
 pub mod Repeat

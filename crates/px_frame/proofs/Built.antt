@@ -14,9 +14,9 @@ use Rattle.px_frame.specs.Enter.{entered, AreStarted}
 use Rattle.px_frame.specs.Groups.{IsGroups, group_of}
 use Rattle.px_frame.specs.GroupsView.{idx_group}
 use Rattle.px_frame.specs.Parts.{with_key, distinct, rows_of_keys, parts_of}
-use Rattle.px_frame.proofs.Bounds.{IsGroups-parts}
-use Rattle.px_frame.proofs.Entering.{distinct_step, enter_made}
-use Rattle.px_frame.proofs.Keys.{keys_push}
+use Rattle.px_frame.specs.PartLaws.{IsGroups-parts}
+use Rattle.px_frame.proofs.Entering.{enter_made}
+use Rattle.px_column.specs.KeyLaws.{keys_push}
 use Rattle.px_frame.proofs.Started.{groups_of_rows}
 
 laws : IsEquivalence row_eq
@@ -24,11 +24,6 @@ laws = IsEquivalence-decides row_decides
 
 length_keys : (by : List Series) (n : ℕ) → length (keys_of by n) ≡ n
 length_keys by n = length-map-range_with_len (key_at by) 0 n
-
-pub keys_step : (by : List Series) (n : ℕ) (firsts news : List (List Slot)) (k : List Slot) → k ≡ key_at by n → firsts ≡ distinct row_eq (keys_of by n) → news ≡ with_key row_eq firsts k
-    → news ≡ distinct row_eq (keys_of by (n + 1))
-keys_step by n firsts news k e f h =
-    distinct_step row_eq laws firsts news (keys_of by n) k f h ∙ ap (λ (x : List Slot). distinct row_eq (keys_of by n ++ x ∷ [])) e ∙ ap (distinct row_eq) (sym (keys_push by n))
 
 pub groups_step : (by : List Series) (n : ℕ) (firsts news : List (List Slot)) (ps qs : List (List ℕ)) (k : List Slot) → k ≡ key_at by n → IsDistinct row_eq firsts → firsts ≡ distinct row_eq (keys_of by n)
     → ps ≡ rows_of_keys row_eq firsts (keys_of by n) → news ≡ with_key row_eq firsts k → qs ≡ entered row_eq firsts ps k n → qs ≡ rows_of_keys row_eq news (keys_of by (n + 1))

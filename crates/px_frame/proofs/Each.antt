@@ -4,25 +4,18 @@ use Rattle.std.specs.List.{list_all}
 use Rattle.std.proofs.lemmas.Bool.Decides.{nat_tests}
 use Rattle.std.proofs.lemmas.List.{length-map}
 use Rattle.px_column.specs.Column.{taken_at, all_within}
+use Rattle.px_value.specs.FitLaws.{both}
 use Rattle.px_value.specs.Datum.{Slot}
 use Rattle.px_value.specs.Series.{Series, slot_at}
 use Rattle.px_frame.specs.Aggregate.{has_row, key_column}
 use Rattle.px_frame.specs.Frame.{are_below, all_have_height, has_height, are_in_all, taken_series}
 use Rattle.px_frame.specs.Groups.{Group, first_row, is_group, IsGroups}
 
-pub both : (a b : Bool) → (a && b) ≡ true → (a ≡ true) × (b ≡ true)
-both true b h = (refl, h)
-both false b h = cc
-
 module _ {X : Type 0} where
   pub all_at : (test : X → Bool) (xs : List X) (i : ℕ) (x : X) → list_all test xs ≡ true → slice_get xs i ≡ Some x → test x ≡ true
   all_at test [] i x h e = cc
   all_at test (y ∷ ys) zero x h e = let same : y ≡ x = cc in ap test (sym same) ∙ (both (test y) (list_all test ys) h).0
   all_at test (y ∷ ys) (suc i) x h e = all_at test ys i x (both (test y) (list_all test ys) h).1 e
-
-  pub all_push : (test : X → Bool) (xs : List X) (x : X) → list_all test xs ≡ true → test x ≡ true → list_all test (xs ++ x ∷ []) ≡ true
-  all_push test [] x h e = λ i. e i && true
-  all_push test (y ∷ ys) x h e = let p = both (test y) (list_all test ys) h in λ i. p.0 i && all_push test ys x p.1 e i
 
   take_suc : (xs : List X) (i : ℕ) (x : X) → slice_get xs i ≡ Some x → take (suc i) xs ≡ take i xs ++ x ∷ []
   take_suc [] i x e = cc

@@ -5,22 +5,12 @@ use Rattle.std.proofs.lemmas.List.{append-nil}
 use Rattle.std.specs.Cmp.{IsEquivalence}
 use Rattle.std.specs.List.{list_any, position_or_len, IsDistinct, AllByRecursion}
 use Rattle.std.proofs.lemmas.List.Folds.{list_any-append}
-use Rattle.std.proofs.lemmas.Grind.{fold-append}
 use Rattle.std.proofs.lemmas.Map.Steps.{list_any_congr}
 use Rattle.px_frame.specs.Enter.{entered}
+use Rattle.px_frame.specs.PartLaws.{numbers_end}
 use Rattle.px_frame.specs.Parts.{numbers, with_key, distinct, rows_of_keys}
 
-cond_append : {X : Type 0} (b : Bool) (x : X) (xs ys : List X) → cond b (x ∷ xs) xs ++ ys ≡ cond b (x ∷ (xs ++ ys)) (xs ++ ys)
-cond_append true x xs ys = refl
-cond_append false x xs ys = refl
-
 module _ {K : Type 0} where
-  pub numbers_more : (p : K → Bool) (n : ℕ) (ks : List K) (k : K) → numbers p n (ks ++ k ∷ []) ≡ numbers p n ks ++ cond (p k) ((n + length ks) ∷ []) []
-  numbers_more p n [] k = rw (add-zero n) refl
-  numbers_more p n (x ∷ xs) k =
-      ap (λ ns. cond (p x) (n ∷ ns) ns) (numbers_more p (n + 1) xs k ∙ ap (λ m. numbers p (n + 1) xs ++ cond (p k) (m ∷ []) []) (let e : n + 1 + length xs ≡ n + suc (length xs) = omega arith in e))
-      ∙ sym (cond_append (p x) n (numbers p (n + 1) xs) (cond (p k) ((n + suc (length xs)) ∷ []) []))
-
   pub numbers_none : (p : K → Bool) (n : ℕ) (ks : List K) → list_any p ks ≡ false → numbers p n ks ≡ []
   numbers_none p n [] h = refl
   numbers_none p n (x ∷ xs) h = by (p x) refl (numbers_none p (n + 1) xs)
@@ -28,9 +18,6 @@ module _ {K : Type 0} where
       by : (b : Bool) → p x ≡ b → (list_any p xs ≡ false → numbers p (n + 1) xs ≡ []) → numbers p n (x ∷ xs) ≡ []
       by true e rest = let f : (true || list_any p xs) ≡ false = ap (λ c. c || list_any p xs) (sym e) ∙ h in cc
       by false e rest = ap (λ c. cond c (n ∷ numbers p (n + 1) xs) (numbers p (n + 1) xs)) e ∙ rest (ap (λ c. c || list_any p xs) (sym e) ∙ h)
-
-  pub numbers_end : (p : K → Bool) (ks : List K) (k : K) (b : Bool) → p k ≡ b → numbers p 0 (ks ++ k ∷ []) ≡ numbers p 0 ks ++ cond b (length ks ∷ []) []
-  numbers_end p ks k b e = numbers_more p 0 ks k ∙ ap (λ m. numbers p 0 ks ++ cond (p k) (m ∷ []) []) (zero-add (length ks)) ∙ ap (λ c. numbers p 0 ks ++ cond c (length ks ∷ []) []) e
 
   module _ (eq : K → K → Bool) (laws : IsEquivalence eq) where
     pub any_with_key : (ks : List K) (k q : K) → list_any (eq q) (with_key eq ks k) ≡ (list_any (eq q) ks || eq q k)
@@ -144,9 +131,6 @@ module _ {K : Type 0} where
     enter_step firsts ps qs ks k row d f p r q =
         q ∙ (λ i. entered eq firsts (p i) k (r i))
         ∙ enter_rows firsts ks k d (λ h. sym (any_distinct [] ks k) ∙ ap (list_any (eq k)) (sym f) ∙ h)
-
-    pub distinct_step : (firsts news : List K) (ks : List K) (k : K) → firsts ≡ distinct eq ks → news ≡ with_key eq firsts k → news ≡ distinct eq (ks ++ k ∷ [])
-    distinct_step firsts news ks k f n = n ∙ ap (λ fs. with_key eq fs k) f ∙ sym (fold-append (with_key eq) [] ks (k ∷ []))
 
     pub enter_made : (firsts news : List K) (ps qs : List (List ℕ)) (ks : List K) (k : K) (row : ℕ) → IsDistinct eq firsts → firsts ≡ distinct eq ks → ps ≡ rows_of_keys eq firsts ks → row ≡ length ks
         → qs ≡ entered eq firsts ps k row → news ≡ with_key eq firsts k → qs ≡ rows_of_keys eq news (ks ++ k ∷ [])

@@ -2,8 +2,6 @@ pub mod Looking
 pub mod Rows
 pub mod Entering
 pub mod Started
-pub mod Bounds
-pub mod Keys
 pub mod Ranges
 pub mod Fields
 pub mod Built

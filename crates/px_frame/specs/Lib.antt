@@ -11,3 +11,4 @@ pub mod Ordered
 pub mod Aggregate
 pub mod Schema
 pub mod SchemaView
+pub mod PartLaws

@@ -9,7 +9,7 @@ use Rattle.px_value.specs.Series.{Series, slot_at}
 use Rattle.px_frame.specs.Cell.{Cell}
 use Rattle.px_frame.specs.Frame.{all_have_height, has_height, height_of, is_even, names_of}
 use Rattle.px_frame.specs.Groups.{first_row}
-use Rattle.px_frame.proofs.Each.{both}
+use Rattle.px_value.specs.FitLaws.{both}
 use Rattle.px_steps.specs.Direct.{kind_on, value_on, aggregated_on, grouped_kind, key_on, spread, value_on_part}
 use Rattle.px_plan.specs.Shape.{name_of, is_unit}
 use Rattle.px_plan.specs.Tree.{Tree}
