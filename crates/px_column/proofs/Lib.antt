@@ -8,4 +8,3 @@ pub mod Reducing
 pub mod Rising
 pub mod Inserting
 pub mod RowOrder
-pub mod Ranges

@@ -9,7 +9,8 @@ ghost use Rattle.px_value.specs.Series.{IsColumn, slot_at};
 ghost use Rattle.px_value.specs.View.{slot_of, slots_of};
 
 use px_value::{
-    DataType, InvalidWhy, Name, Px, PxError, Value, ValueRef, copy_slot, copy_slots, lend, slot_fits,
+    DataType, InvalidWhy, Name, Px, PxError, Value, ValueRef, copy_slot, copy_slots, lend,
+    slot_fits,
 };
 use std::alloc::Global;
 use std::marker::Model;

@@ -14,7 +14,8 @@ pub use px_operation::{
     type_where, wrapped_sum,
 };
 pub use px_value::{
-    ByteString, CastOptions, ClosedInterval, ComputeWhy, DataType, Flags, GroupByMethod, InvalidWhy,
-    Name, Operator, Px, PxError, SortMultipleOptions, SortOptions, Steps, Value, ValueRef, Values,
+    ByteString, CastOptions, ClosedInterval, ComputeWhy, DataType, Flags, GroupByMethod,
+    InvalidWhy, Name, Operator, Px, PxError, SortMultipleOptions, SortOptions, Steps, Value,
+    ValueRef, Values,
 };
 pub use row_key::RowKey;

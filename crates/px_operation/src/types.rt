@@ -183,11 +183,9 @@ pub fn sum_type(dtype: &DataType) -> Option<DataType>
 {
     match dtype {
         DataType::Boolean | DataType::UInt32 => Some(DataType::UInt32),
-        DataType::Int8
-        | DataType::Int16
-        | DataType::UInt8
-        | DataType::UInt16
-        | DataType::Int64 => { Some(DataType::Int64) }
+        DataType::Int8 | DataType::Int16 | DataType::UInt8 | DataType::UInt16 | DataType::Int64 => {
+            Some(DataType::Int64)
+        }
         DataType::Int32 => Some(DataType::Int32),
         DataType::UInt64 => Some(DataType::UInt64),
         _ => None,
