@@ -9,18 +9,18 @@ ghost use Rattle.px_value.specs.Series.{IsColumn, slot_at};
 ghost use Rattle.px_value.specs.View.{slot_of, slots_of};
 
 use px_value::{
-    DataType, InvalidWhy, Name, Px, PxError, Value, ValueRef, copy_slot, copy_slots, lend,
-    slot_fits,
+    DataType, InvalidWhy, Name, Px, PxError, Value, ValueRef, copy_slot, lend, slot_fits,
 };
 use std::alloc::Global;
 use std::marker::Model;
+use std::rc::Rc;
 
-/// A column (polars `Column`), seen as its name, its type and its places.
+/// A column (polars `Column`), seen as its name, its type and its places, which copies of it share.
 #[derive(Drop)]
 pub struct Column {
     name: Name,
     dtype: DataType,
-    rows: Vec<Option<Value>>,
+    rows: Rc<Vec<Option<Value>>>,
 }
 
 impl Model for Column {
@@ -33,9 +33,9 @@ impl Model for Column {
     ghost use Rattle.px_value.specs.View.{slots_of};
     ghost use Rattle.px_value.specs.KindView.{kind_of};
 
-    ghost view = { λ c. record { name = c.name; kind = kind_of c.dtype; slots = slots_of c.rows.items } };
+    ghost view = { λ c. record { name = c.name; kind = kind_of c.dtype; slots = slots_of c.rows.value.items } };
 
-    ghost invariant = { λ c. IsColumn (kind_of c.dtype) (slots_of c.rows.items) };
+    ghost invariant = { λ c. IsColumn (kind_of c.dtype) (slots_of c.rows.value.items) };
 }
 
 fn slot(rows: &[Option<Value>], row: u32) -> Option<ValueRef<'_>>
@@ -111,7 +111,7 @@ impl Column {
     /// The column of these values, of which there are fewer than 2^32; `Types` where one of them does
     /// not fit the type (polars `Series::from_any_values_and_dtype`, strict).
     pub fn from_values(
-        _alloc: Global,
+        alloc: Global,
         name: Name,
         dtype: DataType,
         rows: Vec<Option<Value>>,
@@ -120,19 +120,25 @@ impl Column {
         ensures { Answers result (made name (kind_of dtype) (slots_of rows.items)) }
     {
         if all_fit(&dtype, &rows) {
-            Ok(Column { name, dtype, rows })
+            Column::of_fitting(alloc, name, dtype, rows)
         } else {
             Err(PxError::InvalidOperation(InvalidWhy::Types))
         }
     }
 
     /// The column of these values, which fit the type.
-    pub(crate) fn of_fitting(name: Name, dtype: DataType, rows: Vec<Option<Value>>) -> Column
+    pub(crate) fn of_fitting(
+        alloc: Global,
+        name: Name,
+        dtype: DataType,
+        rows: Vec<Option<Value>>,
+    ) -> Px<Column>
         requires fit { slots_fit (kind_of dtype) (slots_of rows.items) ≡ true }
         requires short { vec_len rows < 2 ^ 32 }
-        ensures { result ≡ record { name = name; kind = kind_of dtype; slots = slots_of rows.items } }
+        ensures { Answers result (Ok (record { name = name; kind = kind_of dtype; slots = slots_of rows.items })) }
     {
-        Column { name, dtype, rows }
+        let rows = Rc::new(alloc, rows)?;
+        Ok(Column { name, dtype, rows })
     }
 
     /// The column of other rows under this one's name. They make a column, as the rows of this one do.
@@ -148,7 +154,7 @@ impl Column {
         Ok(Column {
             name: self.name.try_clone(alloc)?,
             dtype,
-            rows,
+            rows: Rc::new(alloc, rows)?,
         })
     }
 
@@ -200,7 +206,7 @@ impl Column {
         ensures value { slot_of_ref result ≡ slot_at self.now.slots row }
         ensures fits { slot_fits self.now.kind (slot_of_ref result) ≡ true }
     {
-        slot(&self.rows, row)
+        slot(self.rows(), row)
     }
 
     /// The rows, lent: each fits the type.
@@ -212,14 +218,14 @@ impl Column {
         &self.rows
     }
 
-    /// An equal column.
+    /// An equal column, which shares the values.
     pub fn try_clone(&self, alloc: Global) -> Px<Column>
         ensures { Answers result (Ok self.now) }
     {
         Ok(Column {
             name: self.name.try_clone(alloc)?,
             dtype: self.dtype.try_clone(alloc)?,
-            rows: copy_slots(alloc, &self.rows)?,
+            rows: self.rows.clone()?,
         })
     }
 
@@ -240,13 +246,10 @@ impl Column {
         requires { length indices.now < 2 ^ 32 }
         ensures { Answers result (taken self.now indices.now) }
     {
-        if !are_within(self.rows.len(), indices) {
+        if !are_within(self.rows().len(), indices) {
             return Err(PxError::OutOfBounds);
         }
-        Ok(Column {
-            name: self.name.try_clone(alloc)?,
-            dtype: self.dtype.try_clone(alloc)?,
-            rows: take_slots(alloc, &self.rows, indices)?,
-        })
+        let rows = take_slots(alloc, self.rows(), indices)?;
+        self.with_rows(alloc, self.dtype().try_clone(alloc)?, rows)
     }
 }

@@ -32,7 +32,8 @@ fn repeated(
     requires { slot_fits (kind_of dtype) (slot_of_ref slot) ≡ true }
     ensures { Answers result (Ok (repeated name (kind_of dtype) (slot_of_ref slot.entry) len)) }
 {
-    Ok(Column::of_fitting(name, dtype, copies(alloc, slot, len)?))
+    let rows = copies(alloc, slot, len)?;
+    Column::of_fitting(alloc, name, dtype, rows)
 }
 
 impl Column {

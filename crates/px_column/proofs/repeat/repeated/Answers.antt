@@ -7,5 +7,5 @@ use Rattle.px_column.proofs.repeat.repeated.Goals as goal
 
 pub of_fitting-requires-clause-fit : goal.of_fitting-requires-clause-fit
 of_fitting-requires-clause-fit c =
-    let s : slots_of c.in_ok-copies.field-0.items ≡ replicate c.args.len (slot_of_ref c.args.slot) = cc (c.in_ok-copies.ensures) in
+    let s : slots_of c.in_ok-rows.rows.items ≡ replicate c.args.len (slot_of_ref c.args.slot) = cc (c.in_ok-rows.ensures) in
     rw s (fits_repeated (kind_of c.args.dtype) (slot_of_ref c.args.slot) c.args.len c.requires)

@@ -5,8 +5,8 @@ use Rattle.px_value.specs.View.{slots_of}
 use Rattle.px_column.proofs.Fitting.{taken_column}
 use Rattle.px_column.proofs.column.Column.take.Goals as goal
 
-pub invariant_of-result : goal.invariant_of-result
-invariant_of-result c =
-    let k : kind_of c.in_ok-try_clone-2.field-0 ≡ kind_of c.self.inside.dtype = cc (c.in_ok-try_clone-2.ensures) in
-    let s : slots_of c.in_ok-take_slots.field-0.items ≡ map (taken_at (slots_of c.self.inside.rows.items)) c.args.indices.now = cc (c.in_ok-take_slots.ensures, c.deref.ensures.value) in
-    rw k (taken_column _ _ _ c.args.indices.now c.self.invariant c.requires s)
+pub with_rows-requires : goal.with_rows-requires
+with_rows-requires c = λ column.
+    let k : kind_of c.in_ok-try_clone.field-0 ≡ c.args.self.now.kind = cc (c.in_ok-try_clone.ensures, c.dtype.ensures) in
+    let s : slots_of c.in_ok-rows.rows.items ≡ map (taken_at c.args.self.now.slots) c.args.indices.now = cc (c.in_ok-rows.ensures, c.rows-2.ensures.value) in
+    rw k (taken_column _ _ _ c.args.indices.now column c.requires s)
