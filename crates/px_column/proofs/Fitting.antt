@@ -1,9 +1,9 @@
 -- What is read of places that fit a type fits it.
-use Rattle.std.proofs.Common.{◌≡◌, ℕ, zero, suc, ◌<◌, ◌^◌, Bool, true, false, ◌&&◌, List, [], ◌∷◌, Option, Some, None, length, map, replicate, refl, subst, sym}
+use Rattle.std.proofs.Common.{◌≡◌, ℕ, zero, suc, ◌<◌, ◌^◌, true, ◌&&◌, List, [], ◌∷◌, Option, Some, None, length, map, replicate, refl, subst, sym}
 use Rattle.std.proofs.lemmas.List.{length-map}
 use Rattle.px_value.specs.Datum.{Slot}
 use Rattle.px_value.specs.Kind.{Kind, slot_fits, slots_fit}
-use Rattle.px_value.specs.Series.{slot_at, IsColumn}
+use Rattle.px_value.specs.Series.{IsColumn}
 use Rattle.px_column.specs.Column.{taken_at}
 use Rattle.px_value.specs.FitLaws.{fits_at}
 

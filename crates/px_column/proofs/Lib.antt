@@ -8,3 +8,4 @@ pub mod Reducing
 pub mod Rising
 pub mod Inserting
 pub mod RowOrder
+pub mod Operating

@@ -2,6 +2,7 @@
 
 mod distinct;
 mod extremes;
+mod operate;
 mod reduce;
 mod sort;
 mod sum;

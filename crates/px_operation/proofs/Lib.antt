@@ -3,3 +3,4 @@ pub mod OperatorRows
 pub mod CastRows
 pub mod FunctionRows
 pub mod ReductionRows
+pub mod Numbers

@@ -10,3 +10,5 @@ pub mod CastRows
 pub mod FunctionRows
 pub mod ReductionRows
 pub mod WrapLaws
+pub mod Operate
+pub mod OperatorLaws

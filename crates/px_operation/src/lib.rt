@@ -1,12 +1,16 @@
 //! Operations on single values: the types that they take and give, and what they make of values.
 #![tactic(auto)]
 
+mod operators;
 pub mod rows;
 mod sum;
 mod types;
+mod wrap;
 
+pub use operators::operate;
 pub use sum::{number, wrapped_sum};
 pub use types::{
     cast_type, is_boolean, is_cast, is_integer, operator_type, reduced_type, same_type, sum_type,
     type_where,
 };
+pub use wrap::wrapped;

@@ -1,0 +1,158 @@
+//! Operators on two columns side by side, row by row (polars-expr `apply_operator`).
+ghost use Rattle.std.specs.Prelude.{◌≡◌, ◌+◌, ◌<◌, ℕ, Ok, length, true};
+ghost use Rattle.px_value.specs.Answer.{Answers, AnswersBy};
+ghost use Rattle.px_value.specs.Kind.{slot_fits};
+ghost use Rattle.px_value.specs.LentView.{slot_of_ref};
+ghost use Rattle.px_value.specs.Series.{slot_at};
+ghost use Rattle.px_value.specs.View.{slots_of};
+ghost use Rattle.px_value.specs.declared.operator.Operator.TheVariants.{And, Or, Xor};
+ghost use Rattle.px_operation.specs.Operate.{is_arithmetic};
+ghost use Rattle.px_operation.specs.Operator.{is_comparison};
+ghost use Rattle.px_column.specs.Operated.{appended_column, arithmetic_column, common_length, operated_column, operated_rows, rows_to};
+
+#[cfg(test)]
+mod tests;
+
+use crate::column::Column;
+use px_operation::{is_integer, operate, operator_type};
+use px_value::{DataType, InvalidWhy, Operator, Px, PxError, Steps, Value, ValueRef};
+use std::alloc::Global;
+use std::sync::ledger::Ledger;
+
+/// The length of two columns side by side: a single row is repeated. `ShapeMismatch` where the lengths
+/// differ and neither is 1.
+fn common_len(left: u32, right: u32) -> Px<u32>
+    ensures { Answers result (common_length left right) }
+{
+    if left == right {
+        Ok(left)
+    } else if left == 1 {
+        Ok(right)
+    } else if right == 1 {
+        Ok(left)
+    } else {
+        Err(PxError::ShapeMismatch)
+    }
+}
+
+/// What an operator makes of the rows of two columns of one type, side by side.
+fn operated_rows(
+    alloc: Global,
+    left: &Column,
+    right: &Column,
+    op: Operator,
+    len: u32,
+) -> Px<Vec<Option<Value>>>
+    requires kind { left.now.kind ≡ right.now.kind }
+    requires len { common_length (length left.now.slots) (length right.now.slots) ≡ Ok len }
+    ensures { AnswersBy (λ v. slots_of v.items) result (Ok (operated_rows op left.now right.now len)) }
+{
+    let mut rows = Vec::with_capacity(alloc, len as usize)?;
+    for row in 0..len {
+        let (x, y) = (left.row_beside(row), right.row_beside(row));
+        rows.push(operate(alloc, left.dtype(), op, x, y)?)?;
+    }
+    Ok(rows)
+}
+
+/// What an operator makes of two columns.
+fn operated(alloc: Global, left: &Column, right: &Column, op: Operator) -> Px<Column>
+    ensures { Answers result (operated_column op left.now right.now) }
+{
+    let dtype = operator_type(op, left.dtype().try_clone(alloc)?, right.dtype())?;
+    let (xs, ys) = (left.rows(), right.rows());
+    let len = common_len(xs.len() as u32, ys.len() as u32)?;
+    let rows = operated_rows(alloc, left, right, op, len)?;
+    left.with_rows(alloc, dtype, rows)
+}
+
+impl Column {
+    /// The value at a row beside a longer column: a single row stands for each.
+    fn row_beside(&self, row: u32) -> Option<ValueRef<'_>>
+        ensures value { (n : ℕ) → row < n → slot_of_ref result ≡ slot_at (rows_to n self.now.slots) row }
+        ensures fits { slot_fits self.now.kind (slot_of_ref result) ≡ true }
+    {
+        self.slot(if self.len() == 1 { 0 } else { row })
+    }
+
+    /// What an operator makes of two columns row by row (polars-expr `apply_operator`), under the left
+    /// one's name; a column of a single row is repeated to the other's length. One step of the
+    /// counter, whatever is answered. `ListKey` where a comparison has a list, `Types` where the
+    /// types differ or the operator does not take them, then `ShapeMismatch` where the lengths do
+    /// not agree.
+    pub fn apply_operator<L: Ledger>(
+        alloc: Global,
+        left: &Column,
+        right: &Column,
+        op: Operator,
+        kernels: &mut Steps<L>,
+    ) -> Px<Column>
+        ensures answer { Answers result (operated_column op left.now right.now) }
+        ensures ticks { kernels.new ≡ kernels.old + 1 }
+    {
+        kernels.tick();
+        operated(alloc, left, right, op)
+    }
+
+    /// Whether the values of two columns compare so, row by row (polars `ChunkCompareEq` and
+    /// `ChunkCompareIneq`); null where one is a null, but for `EqValidity` and `NotEqValidity` (polars
+    /// `equal_missing`). `ListKey` where one has lists, then `Types` where the types differ, then
+    /// `ShapeMismatch`.
+    pub fn compare(alloc: Global, left: &Column, right: &Column, op: Operator) -> Px<Column>
+        requires { is_comparison op ≡ true }
+        ensures { Answers result (operated_column op left.now right.now) }
+    {
+        operated(alloc, left, right, op)
+    }
+
+    /// And of two columns: of truths, where false decides and else a null leaves it open (polars
+    /// `BooleanChunked` `&`), or of integers bit by bit. `Types` for other types, then
+    /// `ShapeMismatch`.
+    pub fn kleene_and(alloc: Global, left: &Column, right: &Column) -> Px<Column>
+        ensures { Answers result (operated_column And left.now right.now) }
+    {
+        operated(alloc, left, right, Operator::And)
+    }
+
+    /// Or of two columns: of truths, where true decides and else a null leaves it open (polars
+    /// `BooleanChunked` `|`), or of integers bit by bit. `Types` for other types, then
+    /// `ShapeMismatch`.
+    pub fn kleene_or(alloc: Global, left: &Column, right: &Column) -> Px<Column>
+        ensures { Answers result (operated_column Or left.now right.now) }
+    {
+        operated(alloc, left, right, Operator::Or)
+    }
+
+    /// Whether exactly one of two truths is true, row by row (polars `BooleanChunked` `^`); null where
+    /// one is a null. Of integers, bit by bit. `Types` for other types, then `ShapeMismatch`.
+    pub fn xor(alloc: Global, left: &Column, right: &Column) -> Px<Column>
+        ensures { Answers result (operated_column Xor left.now right.now) }
+    {
+        operated(alloc, left, right, Operator::Xor)
+    }
+
+    /// Arithmetic on two columns of integers of one type, row by row (polars `NumOpsDispatch`): it wraps
+    /// in the type, and a division by zero gives a null. `Divide` rounds toward zero, `FloorDivide`
+    /// toward minus infinity, and `Modulus` has the divisor's sign. `Types` for other types, then
+    /// `ShapeMismatch`.
+    pub fn arith(alloc: Global, left: &Column, right: &Column, op: Operator) -> Px<Column>
+        requires { is_arithmetic op ≡ true }
+        ensures { Answers result (arithmetic_column op left.now right.now) }
+    {
+        if !is_integer(left.dtype()) {
+            return Err(PxError::InvalidOperation(InvalidWhy::Types));
+        }
+        operated(alloc, left, right, op)
+    }
+
+    /// Each text of the left column followed by that of the right one (polars `StringChunked` `+`);
+    /// null where one is a null. `Types` unless both have texts, then `ShapeMismatch`.
+    pub fn append_text(alloc: Global, left: &Column, right: &Column) -> Px<Column>
+        ensures { Answers result (appended_column left.now right.now) }
+    {
+        match left.dtype() {
+            DataType::String => operated(alloc, left, right, Operator::Plus),
+            _ => Err(PxError::InvalidOperation(InvalidWhy::Types)),
+        }
+    }
+}
