@@ -4,7 +4,7 @@ use Rattle.std.specs.Fmt.{decimal}
 use Rattle.std.specs.Io.KnownBytes.{Appends}
 use Rattle.px_value.specs.declared.error.PxError.{PxError}
 use Rattle.px_documents.specs.Told.{IsTold}
-use Rattle.px_steps.specs.Memory.{Store}
+use Rattle.px_ends.specs.Memory.{Store}
 use Rattle.px_steps.specs.Run.{Ends, number_of}
 use Rattle.px_steps.specs.declared.status.Status.{Status}
 

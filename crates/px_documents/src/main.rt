@@ -6,7 +6,7 @@
 ghost use Rattle.std.specs.Prelude.{◌≡◌, ◌≢◌, ◌<◌, ℕ, List, IfOk, OnOk, Some};
 ghost use Rattle.std.specs.Io.KnownBytes.{Appends};
 ghost use Rattle.px_documents.specs.Told.{IsTold};
-ghost use Rattle.px_steps.specs.Ends.{Rose};
+ghost use Rattle.px_ends.specs.Ends.{Rose};
 ghost use Rattle.px_steps.specs.Run.{Ends};
 
 use px_column::{Px, Steps};

@@ -6,33 +6,20 @@ use Rattle.px_value.specs.Series.{Series}
 use Rattle.px_frame.specs.External.{Frame, alone, scope_of, look_in}
 use Rattle.px_frame.specs.Frame.{look, has_name, name_eq, names_of, first_repeat, IsFrame}
 use Rattle.px_frame.specs.Schema.{FieldKind, column_field, has_field_name}
-use Rattle.px_plan.specs.Tree.{column}
+use Rattle.px_expression.specs.Tree.{column}
 use Rattle.px_value.specs.Answer.{Answers, AnswersBy}
 use Rattle.px_frame.specs.SchemaView.{field_kind}
 use Rattle.px_frame.specs.declared.schema.Field.{Field}
 use Rattle.px_value.specs.Kind.{Kind}
 use Rattle.px_value.specs.declared.error.PxError.{PxError}
 use Rattle.px_value.specs.declared.error.PxError.TheVariants.{ColumnNotFound, ShapeMismatch}
-use Rattle.px_plan.specs.Typing.{kind_of_name, refused_where}
-use Rattle.px_plan.specs.Value.{has_misfit}
+use Rattle.px_expression.specs.Typing.{kind_of_name, refused_where}
+use Rattle.px_expression.specs.Value.{has_misfit}
 use Rattle.px_expr.specs.Planned.{Planned, PlannedColumn, found_by}
 use Rattle.px_expr.specs.Live.{field_on}
 use Rattle.px_expr.specs.Value.{IsValue, IsOneOf, IsCause, causes_on, unfound_refusal}
-
-both_true : (a b : Bool) → (a && b) ≡ true → (a ≡ true) × (b ≡ true)
-both_true true b h = (refl, h)
-both_true false b h = cc
-
--- names that pass the test are the same
-pub names_same : (n m : List ℕ) → name_eq n m ≡ true → n ≡ m
-names_same [] [] h = refl
-names_same [] (y ∷ ys) h = cc
-names_same (x ∷ xs) [] h = cc
-names_same (x ∷ xs) (y ∷ ys) h =
-    let s = both_true (x == y) (name_eq xs ys) h in
-    let t : (x == y) ≡ true = s.0 in
-    let e : x ≡ y = grind (arith, nat_tests) in
-    λ i. e i ∷ names_same xs ys s.1 i
+use Rattle.px_value.specs.FitLaws.{both as both_true}
+use Rattle.px_frame.specs.LookLaws.{field_look, names_same}
 
 -- a name passes its own test
 pub name_self : (n : List ℕ) → name_eq n n ≡ true
@@ -106,15 +93,6 @@ found_behind n (suc places) seen (t ∷ columns) s d h = by (list_any (name_eq t
 -- among a frame's columns, one behind others is the one of its name
 pub looked_behind : (n : List ℕ) (places : ℕ) (columns : List Series) (s : Series) → first_repeat [] (names_of columns) ≡ None → look n (drop places columns) ≡ Some s → look n columns ≡ Some s
 looked_behind n places columns s d h = found_behind n places [] columns s d h
-
--- the field of a column that is found
-pub field_look : (n : List ℕ) (columns : List Series) → find (has_field_name n) (map column_field columns) ≡ option_map column_field (look n columns)
-field_look n [] = refl
-field_look n (t ∷ columns) = by (name_eq n t.name) (field_look n columns)
-  where
-    by : (b : Bool) → find (has_field_name n) (map column_field columns) ≡ option_map column_field (look n columns) → cond b (Some (column_field t)) (find (has_field_name n) (map column_field columns)) ≡ option_map column_field (cond b (Some t) (look n columns))
-    by true h = refl
-    by false h = h
 
 -- the column that a node finds is its value
 pub found_is_value : (c : PlannedColumn) (columns : List Series) (s : Series) → found_by c (alone columns) ≡ Some s → look c.name columns ≡ Some s → IsValue (record { tree = column c.name; columns = c ∷ [] }) (alone columns) s

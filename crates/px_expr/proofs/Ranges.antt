@@ -9,13 +9,14 @@ use Rattle.px_value.specs.Answer.{Answers}
 use Rattle.px_column.specs.Column.{made}
 use Rattle.px_value.specs.Datum.{integer, Slot}
 use Rattle.px_value.specs.Kind.{Kind, booleans, int8s, int16s, int32s, int64s, uint8s, uint16s, uint32s, uint64s, strings, binaries, nulls, lists, fits, slot_fits, slots_fit, is_signed, is_unsigned}
-use Rattle.px_plan.specs.Node.{integers, natural}
+use Rattle.px_expression.specs.Node.{integers, natural}
 use Rattle.px_value.specs.Series.{Series}
 use Rattle.px_value.specs.View.{slot_of, slots_of}
 use Rattle.px_value.specs.declared.error.PxError.{PxError}
 use Rattle.px_value.specs.declared.value.Value.{Value}
-use Rattle.px_plan.specs.Typing.{is_range_kind}
+use Rattle.px_expression.specs.Typing.{is_range_kind}
 use Rattle.px_expr.specs.Literal.{range_column}
+use Rattle.px_value.specs.FitLaws.{both}
 
 -- between two numbers of a range of numbers
 signed_between : (n : ℕ) (low high z : ℤ) (i : ℕ) → z ≡ low +ℤ pos i → i < natural (high -ℤ low) → is_signed n low ≡ true → is_signed n high ≡ true → is_signed n z ≡ true
@@ -48,10 +49,6 @@ fits_between strings low high i r h l u = absurd (cc r)
 fits_between binaries low high i r h l u = absurd (cc r)
 fits_between nulls low high i r h l u = absurd (cc r)
 fits_between (lists k) low high i r h l u = absurd (cc r)
-
-both : (a b : Bool) → (a && b) ≡ true → (a ≡ true) × (b ≡ true)
-both true b h = (refl, h)
-both false b h = absurd (cc h)
 
 -- each of them does
 all_between : (k : Kind) (low high : ℤ) (a n : ℕ) → is_range_kind k ≡ true → a + n ≤ natural (high -ℤ low) → fits k (integer low) ≡ true → fits k (integer high) ≡ true

@@ -2,7 +2,7 @@
 use Rattle.std.specs.Prelude.{Bool, true, false, ◌&&◌}
 use Rattle.px_value.specs.declared.method.GroupByMethod.{GroupByMethod}
 use Rattle.px_value.specs.declared.method.GroupByMethod.TheVariants.{Sum}
-use Rattle.px_plan.specs.Tree.{Tree, column, literal, alias, agg, len}
+use Rattle.px_expression.specs.Tree.{Tree, column, literal, alias, agg, len}
 
 -- whether a reduction is the sum
 abbrev pub is_sum : GroupByMethod → Bool

@@ -6,11 +6,11 @@ use Rattle.px_value.specs.Result.{◌>>=◌}
 use Rattle.px_value.specs.declared.error.PxError.{PxError}
 use Rattle.px_frame.specs.Frame.{name_eq}
 use Rattle.px_frame.specs.Schema.{FieldKind}
-use Rattle.px_plan.specs.Shape.{name_of}
-use Rattle.px_plan.specs.Tree.{Tree, Trees, Order, no_trees, one_tree, no_order, ordered, column, literal, alias, binary, ternary, cast, function, filter, slice, gather, sort, sort_by, agg, len, window}
-use Rattle.px_plan.specs.Typing.{Scope, type_of}
-use Rattle.px_plan.specs.declared.context.Context.TheVariants.{Default}
-use Rattle.px_plan.specs.declared.function.FunctionExpr.TheVariants.{IsNull, IsNotNull, Not}
+use Rattle.px_expression.specs.Shape.{name_of}
+use Rattle.px_expression.specs.Tree.{Tree, Trees, Order, no_trees, one_tree, no_order, ordered, column, literal, alias, binary, ternary, cast, function, filter, slice, gather, sort, sort_by, agg, len, window}
+use Rattle.px_expression.specs.Typing.{Scope, type_of}
+use Rattle.px_expression.specs.declared.context.Context.TheVariants.{Default}
+use Rattle.px_expression.specs.declared.function.FunctionExpr.TheVariants.{IsNull, IsNotNull, Not}
 
 -- the expression that a node gives: none for a reduction, and for an alias the one that it stands over
 abbrev pub expression_of : Tree → Option Tree

@@ -3,12 +3,12 @@ use Rattle.std.specs.Prelude.{◌≡◌, ℕ, ◌+◌, ◌<◌, true, ◌||◌, 
 use Rattle.px_value.specs.Answer.{Refuses}
 use Rattle.px_value.specs.Result.{◌>>=◌}
 use Rattle.px_value.specs.declared.error.PxError.{PxError}
-use Rattle.px_plan.specs.Arena.{tree_at}
-use Rattle.px_plan.specs.Named.{NamedNode}
-use Rattle.px_plan.specs.Nodes.{leaf_names}
-use Rattle.px_plan.specs.Tree.{Tree, alias}
-use Rattle.px_plan.specs.Typing.{Scope, type_of}
-use Rattle.px_plan.specs.declared.context.Context.{Context}
+use Rattle.px_arena.specs.Arena.{tree_at}
+use Rattle.px_arena.specs.Named.{NamedNode}
+use Rattle.px_expression.specs.Nodes.{leaf_names}
+use Rattle.px_expression.specs.Tree.{Tree, alias}
+use Rattle.px_expression.specs.Typing.{Scope, type_of}
+use Rattle.px_expression.specs.declared.context.Context.{Context}
 use Rattle.px_expr.specs.Built.{is_built_tree}
 use Rattle.px_expr.specs.Depth.{has_window, is_too_deep}
 use Rattle.px_expr.specs.Planned.{Planned}

@@ -3,9 +3,9 @@ ghost use Rattle.std.specs.Prelude.{◌≡◌, ◌<◌, true, [], length, map, O
 ghost use Rattle.std.specs.List.{All};
 ghost use Rattle.px_value.specs.Answer.{AnswersBy};
 ghost use Rattle.px_value.specs.declared.method.GroupByMethod.TheVariants.{Sum};
-ghost use Rattle.px_plan.specs.Arena.{tree_at};
-ghost use Rattle.px_plan.specs.Tree.{column, literal, alias, agg};
-ghost use Rattle.px_plan.specs.View.{tree, literal_of};
+ghost use Rattle.px_arena.specs.Arena.{tree_at};
+ghost use Rattle.px_expression.specs.Tree.{column, literal, alias, agg};
+ghost use Rattle.px_expression.specs.View.{tree, literal_of};
 ghost use Rattle.px_expr.specs.Built.{is_built_tree};
 ghost use Rattle.px_expr.specs.NodeView.{plan_of};
 ghost use Rattle.px_expr.specs.Plan.{plan_in, plans_in, planned_over, noted, all_noted, IsPlannable, NotesFront};

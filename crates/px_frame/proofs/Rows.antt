@@ -10,6 +10,7 @@ use Rattle.px_value.specs.declared.error.PxError.TheVariants.{ShapeMismatch}
 use Rattle.px_frame.proofs.Each.{has_height_is}
 use Rattle.px_value.specs.FitLaws.{both}
 use Rattle.px_frame.specs.Frame.{names_of, all_have_height, has_height, is_even, IsFrame, frame_of, first_repeat, unless_repeated, are_below, are_in_all, taken_series, series_at, slots_at, subframe}
+use Rattle.px_frame.specs.LookLaws.{has_length}
 
 within_below : (n : ℕ) (rows : List ℕ) → all_within n (map Some rows) ≡ are_below n rows
 within_below n [] = refl
@@ -32,9 +33,6 @@ taken_frame rows (s ∷ frame) = λ i. record s { slots = taken_slots s.slots ro
 names_of-subframe : (rows : List ℕ) (frame : List Series) → names_of (subframe frame rows) ≡ names_of frame
 names_of-subframe rows [] = refl
 names_of-subframe rows (s ∷ frame) = ap (λ ns. s.name ∷ ns) (names_of-subframe rows frame)
-
-has_length : (n : ℕ) (s : Series) → length s.slots ≡ n → has_height n s ≡ true
-has_length n s h = grind (arith, nat_tests)
 
 all_as_long : (rows : List ℕ) (frame : List Series) → all_have_height (length rows) (subframe frame rows) ≡ true
 all_as_long rows [] = refl

@@ -12,3 +12,4 @@ pub mod Aggregate
 pub mod Schema
 pub mod SchemaView
 pub mod PartLaws
+pub mod LookLaws

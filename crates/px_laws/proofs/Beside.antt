@@ -13,17 +13,15 @@ use Rattle.px_frame.specs.External.{look_in, scope_of, rows_of_frame, with_field
 use Rattle.px_frame.specs.Frame.{look, has_name, series_at, height_of}
 use Rattle.px_frame.specs.Schema.{FieldKind, column_field, has_field_name, is_field_name}
 use Rattle.px_frame.specs.Spread.{NamedCell}
-use Rattle.px_plan.specs.Node.{binary_cell, ternary_cell, cast_cell, function_cell, filter_cell, slice_cell, gather_cell, sort_cell, sort_by_cell, reduction_cell}
-use Rattle.px_plan.specs.Nodes.{leaf_names, all_leaf_names, order_leaf_names}
-use Rattle.px_plan.specs.Shape.{is_unit, is_literal_tree, name_of}
-use Rattle.px_plan.specs.Tree.{Tree, Trees, Order, no_trees, one_tree, no_order, ordered, column, literal, alias, binary, ternary, cast, function, filter, slice, gather, sort, sort_by, agg, len, window}
-use Rattle.px_plan.specs.Typing.{kind_in, kinds_in, kind_of_name, made_kind, function_kind, window_kind}
-use Rattle.px_plan.specs.Value.{value_on, outcome_on, made, cells_on, named_on, order_on, first_kind, whole_window, window_parts}
+use Rattle.px_expression.specs.Node.{binary_cell, ternary_cell, cast_cell, function_cell, filter_cell, slice_cell, gather_cell, sort_cell, sort_by_cell, reduction_cell}
+use Rattle.px_expression.specs.Nodes.{leaf_names, all_leaf_names, order_leaf_names}
+use Rattle.px_expression.specs.Shape.{is_unit, is_literal_tree, name_of}
+use Rattle.px_expression.specs.Tree.{Tree, Trees, Order, no_trees, one_tree, no_order, ordered, column, literal, alias, binary, ternary, cast, function, filter, slice, gather, sort, sort_by, agg, len, window}
+use Rattle.px_expression.specs.Typing.{kind_in, kinds_in, kind_of_name, made_kind, function_kind, window_kind}
+use Rattle.px_expression.specs.Value.{value_on, outcome_on, made, cells_on, named_on, order_on, first_kind, whole_window, window_parts}
 use Rattle.px_laws.specs.Beside.{beside, is_column_of, are_columns_of}
-
-both : (a b : Bool) → (a && b) ≡ true → (a ≡ true) × (b ≡ true)
-both true b h = (refl, h)
-both false b h = cc
+use Rattle.px_value.specs.FitLaws.{both}
+use Rattle.px_frame.specs.LookLaws.{field_look, look_rows as look_at}
 
 split : (columns : List Series) (xs ys : List (List ℕ)) → are_columns_of columns (xs ++ ys) ≡ true → (are_columns_of columns xs ≡ true) × (are_columns_of columns ys ≡ true)
 split columns [] ys h = (refl, h)
@@ -55,15 +53,6 @@ scope_stays n fields (s ∷ external) h =
     let next = with_stays n fields s h in
     scope_stays n (with_field fields s) external (ap is_some next ∙ h) ∙ next
 
-pub field_look : (n : List ℕ) (columns : List Series) → find (has_field_name n) (map column_field columns) ≡ option_map column_field (look n columns)
-field_look n [] = refl
-field_look n (s ∷ columns) = by (has_name n s) (field_look n columns)
-  where
-    by : (b : Bool) → find (has_field_name n) (map column_field columns) ≡ option_map column_field (look n columns)
-        → cond b (Some (column_field s)) (find (has_field_name n) (map column_field columns)) ≡ option_map column_field (cond b (Some s) (look n columns))
-    by true rest = refl
-    by false rest = rest
-
 some_map : (o : Option Series) → is_some (option_map column_field o) ≡ is_some o
 some_map None = refl
 some_map (Some s) = refl
@@ -71,16 +60,6 @@ some_map (Some s) = refl
 kind_stays : (n : List ℕ) (columns external : List Series) → is_column_of columns n ≡ true → kind_of_name n (scope_of (beside columns external)) ≡ option_map (λ (f : FieldKind). f.kind) (find (has_field_name n) (map column_field columns))
 kind_stays n columns external h =
     ap (option_map (λ (f : FieldKind). f.kind)) (scope_stays n (map column_field columns) external (ap is_some (field_look n columns) ∙ some_map (look n columns) ∙ h))
-
--- the columns of some rows have the same names
-look_at : (n : List ℕ) (columns : List Series) (p : List ℕ) → look n (map (series_at p) columns) ≡ option_map (series_at p) (look n columns)
-look_at n [] p = refl
-look_at n (s ∷ columns) p = by (has_name n s) (look_at n columns p)
-  where
-    by : (b : Bool) → find (has_name n) (map (series_at p) columns) ≡ option_map (series_at p) (find (has_name n) columns)
-        → cond b (Some (series_at p s)) (find (has_name n) (map (series_at p) columns)) ≡ option_map (series_at p) (cond b (Some s) (find (has_name n) columns))
-    by true rest = refl
-    by false rest = rest
 
 some_at : (p : List ℕ) (o : Option Series) → is_some (option_map (series_at p) o) ≡ is_some o
 some_at p None = refl
@@ -125,7 +104,7 @@ look_beside n cs a h = by (look n cs) h
     by None h = cc
     by (Some s) h = refl
 
-each_same : {A B : Type 0} (f g : A → Option B) (xs : List A) → ((x : A) → f x ≡ g x) → each f xs ≡ each g xs
+pub each_same : {A B : Type 0} (f g : A → Option B) (xs : List A) → ((x : A) → f x ≡ g x) → each f xs ≡ each g xs
 each_same f g [] h = refl
 each_same f g (x ∷ xs) h = λ i. h x i >>= λ y. option_map (λ ys. y ∷ ys) (each_same f g xs h i)
 

@@ -11,17 +11,18 @@ use Rattle.px_frame.specs.External.{Frame, height, look_in, scope_of, rows_of_fr
 use Rattle.px_frame.specs.Frame.{look, has_name, series_at}
 use Rattle.px_frame.specs.Schema.{FieldKind, column_field, has_field_name, is_field_name}
 use Rattle.px_frame.specs.Spread.{NamedCell}
-use Rattle.px_plan.specs.Node.{literal_cell, binary_cell, ternary_cell, cast_cell, function_cell, filter_cell, slice_cell, gather_cell, sort_cell, sort_by_cell, reduction_cell}
-use Rattle.px_plan.specs.Shape.{is_literal_tree, name_of}
-use Rattle.px_plan.specs.Tree.{Tree, Trees, Order, no_trees, one_tree, no_order, ordered, column, literal, alias, binary, ternary, cast, function, filter, slice, gather, sort, sort_by, agg, len, window}
-use Rattle.px_plan.specs.Typing.{kind_in, kinds_in, kind_of_name, refusals_of, all_refusals_of, order_refusals_of}
-use Rattle.px_plan.specs.Value.{value_on, outcome_on, made, cells_on, named_on, order_on, named, first_kind, whole_window, window_parts, fault_in, faults_on, all_faults_on, order_faults_on, parts_in, parts_on}
-use Rattle.px_plan.specs.Window.{OrderCell, parts_by, window_cell}
-use Rattle.px_plan.specs.declared.context.Context.{Context}
-use Rattle.px_plan.specs.declared.context.Context.TheVariants.{Default, Aggregation}
-use Rattle.px_plan.specs.declared.window.WindowMapping.{WindowMapping}
-use Rattle.px_laws.proofs.KindThere.{There, none_left, none_right, none_first, kind_there, kinds_there}
+use Rattle.px_expression.specs.Node.{literal_cell, binary_cell, ternary_cell, cast_cell, function_cell, filter_cell, slice_cell, gather_cell, sort_cell, sort_by_cell, reduction_cell}
+use Rattle.px_expression.specs.Shape.{is_literal_tree, name_of}
+use Rattle.px_expression.specs.Tree.{Tree, Trees, Order, no_trees, one_tree, no_order, ordered, column, literal, alias, binary, ternary, cast, function, filter, slice, gather, sort, sort_by, agg, len, window}
+use Rattle.px_expression.specs.Typing.{kind_in, kinds_in, kind_of_name, refusals_of, all_refusals_of, order_refusals_of}
+use Rattle.px_expression.specs.Value.{value_on, outcome_on, made, cells_on, named_on, order_on, named, first_kind, whole_window, window_parts, fault_in, faults_on, all_faults_on, order_faults_on, parts_in, parts_on}
+use Rattle.px_expression.specs.Window.{OrderCell, parts_by, window_cell}
+use Rattle.px_expression.specs.declared.context.Context.{Context}
+use Rattle.px_expression.specs.declared.context.Context.TheVariants.{Default, Aggregation}
+use Rattle.px_expression.specs.declared.window.WindowMapping.{WindowMapping}
+use Rattle.px_expression.specs.KindLaws.{There, none_left, none_right, none_first, kind_there, kinds_there}
 use Rattle.px_laws.proofs.Shapes.{bound, made_bound, map_found}
+use Rattle.px_frame.specs.LookLaws.{field_look}
 
 -- a name that has a type stands for a column
 pub missing_stays : (n : List ℕ) (fields : List FieldKind) (s : Series) → find (has_field_name n) fields ≡ None → has_name n s ≡ false → find (has_field_name n) (with_field fields s) ≡ None
@@ -47,15 +48,6 @@ beside_there n fields (s ∷ external) f h e = by (has_name n s) refl (λ m. bes
     by : (b : Bool) → has_name n s ≡ b → (has_name n s ≡ false → There (look n external)) → There (cond b (Some s) (look n external))
     by true m rest = (s, refl)
     by false m rest = rest m
-
-field_look : (n : List ℕ) (columns : List Series) → find (has_field_name n) (map column_field columns) ≡ option_map column_field (look n columns)
-field_look n [] = refl
-field_look n (s ∷ columns) = by (has_name n s) (field_look n columns)
-  where
-    by : (b : Bool) → find (has_field_name n) (map column_field columns) ≡ option_map column_field (look n columns)
-        → cond b (Some (column_field s)) (find (has_field_name n) (map column_field columns)) ≡ option_map column_field (cond b (Some s) (look n columns))
-    by true rest = refl
-    by false rest = rest
 
 found_of_kind : (o : Option FieldKind) (k : Kind) → option_map (λ (f : FieldKind). f.kind) o ≡ Some k → There o
 found_of_kind None k h = cc

@@ -16,6 +16,7 @@ use Rattle.px_column.specs.Key.{keys_of}
 use Rattle.px_value.specs.Series.{Series}
 use Rattle.px_frame.specs.Groups.{first_row}
 use Rattle.px_frame.specs.Parts.{numbers, with_key, distinct, parts_of}
+use Rattle.px_laws.proofs.Joining.{neither}
 
 -- a number above all of a rising list may follow them
 rises_push : (xs : List ℕ) (m : ℕ) → IsStrictlyIncreasing xs → All (λ x. x < m) xs → IsStrictlyIncreasing (xs ++ m ∷ [])
@@ -34,11 +35,6 @@ rises_push xs m rises below k lt = by (eq-or-lt_of_le (omega (arith, size, lt)))
 first_kept : (xs ys : List ℕ) → 0 < length xs → first_row (xs ++ ys) ≡ first_row xs
 first_kept [] ys h = absurd (omega arith)
 first_kept (x ∷ xs) ys h = refl
-
--- neither of two tests
-neither : (a b : Bool) → (a || b) ≡ false → (a ≡ false) × (b ≡ false)
-neither true b h = cc
-neither false b h = (refl, h)
 
 module _ {K : Type 0} where
   -- the numbers of one more item

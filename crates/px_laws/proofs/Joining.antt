@@ -22,16 +22,18 @@ use Rattle.px_frame.specs.Cell.{Cell, unit, rows, list_of}
 use Rattle.px_frame.specs.External.{Frame, height, look_in, scope_of, rows_of_frame, external_at}
 use Rattle.px_frame.specs.Frame.{look, has_name, has_height, series_at, slots_at}
 use Rattle.px_frame.specs.Spread.{spread, rows_beside}
-use Rattle.px_plan.specs.Node.{chosen, is_unit_cell, cell_of, map_cell, zip_cells, zip_three_cells, binary_cell, ternary_cell, cast_cell, function_cell}
-use Rattle.px_plan.specs.Nodes.{leaf_names, all_leaf_names}
-use Rattle.px_plan.specs.Partition.{is_elementwise, are_elementwise, is_row_function}
-use Rattle.px_plan.specs.Tree.{Tree, Trees, Literal, single, range, series, no_trees, one_tree, column, literal, alias, binary, ternary, cast, function, filter, slice, gather, sort, sort_by, agg, len, window}
-use Rattle.px_plan.specs.Typing.{Scope, kind_in, kinds_in}
-use Rattle.px_plan.specs.Value.{value_on, outcome_on, made, cells_on, first_kind, is_misfit}
-use Rattle.px_plan.specs.declared.function.FunctionExpr.{FunctionExpr}
-use Rattle.px_plan.specs.declared.function.FunctionExpr.TheVariants.{IsNull, IsNotNull, Not, IsBetween, IsIn, Reverse, Shift, DropNulls, NullCount, Explode}
+use Rattle.px_expression.specs.Node.{chosen, is_unit_cell, cell_of, map_cell, zip_cells, zip_three_cells, binary_cell, ternary_cell, cast_cell, function_cell}
+use Rattle.px_expression.specs.Nodes.{leaf_names, all_leaf_names}
+use Rattle.px_expression.specs.Partition.{is_elementwise, are_elementwise, is_row_function}
+use Rattle.px_expression.specs.Tree.{Tree, Trees, Literal, single, range, series, no_trees, one_tree, column, literal, alias, binary, ternary, cast, function, filter, slice, gather, sort, sort_by, agg, len, window}
+use Rattle.px_expression.specs.Typing.{Scope, kind_in, kinds_in}
+use Rattle.px_expression.specs.Value.{value_on, outcome_on, made, cells_on, first_kind, is_misfit}
+use Rattle.px_expression.specs.declared.function.FunctionExpr.{FunctionExpr}
+use Rattle.px_expression.specs.declared.function.FunctionExpr.TheVariants.{IsNull, IsNotNull, Not, IsBetween, IsIn, Reverse, Shift, DropNulls, NullCount, Explode}
 use Rattle.px_laws.proofs.Defined.{scope_of_rows}
 use Rattle.px_laws.proofs.Shapes.{bound, made_bound, made_ok, result_bound}
+use Rattle.px_value.specs.FitLaws.{both as both_true}
+use Rattle.px_frame.specs.LookLaws.{look_rows as look_columns}
 
 -- one unit twice, or two lists
 pub data Alike : Cell → Cell → Type 0 where
@@ -257,24 +259,9 @@ pub neither : (a b : Bool) → (a || b) ≡ false → (a ≡ false) × (b ≡ fa
 neither true b h = cc
 neither false b h = (refl, h)
 
--- both of two tests hold
-pub both_true : (a b : Bool) → (a && b) ≡ true → (a ≡ true) × (b ≡ true)
-both_true true b h = (refl, h)
-both_true false b h = cc
-
 -- no name of two lists is one of a column of another height
 pub no_misfits : (frame : Frame) (xs ys : List (List ℕ)) → list_any (is_misfit frame) (xs ++ ys) ≡ false → (list_any (is_misfit frame) xs ≡ false) × (list_any (is_misfit frame) ys ≡ false)
 no_misfits frame xs ys h = neither _ _ (sym (list_any-append (is_misfit frame) xs ys) ∙ h)
-
--- a column's rows, where it has the frame's height
-look_columns : (n : List ℕ) (columns : List Series) (p : List ℕ) → look n (map (series_at p) columns) ≡ option_map (series_at p) (look n columns)
-look_columns n [] p = refl
-look_columns n (s ∷ columns) p = by (has_name n s) (look_columns n columns p)
-  where
-    by : (b : Bool) → find (has_name n) (map (series_at p) columns) ≡ option_map (series_at p) (find (has_name n) columns)
-        → cond b (Some (series_at p s)) (find (has_name n) (map (series_at p) columns)) ≡ option_map (series_at p) (cond b (Some s) (find (has_name n) columns))
-    by true rest = refl
-    by false rest = rest
 
 -- a column beside the frame keeps its name on some rows
 same_name : (n : List ℕ) (h : ℕ) (p : List ℕ) (s : Series) → has_name n (external_at h p s) ≡ has_name n s

@@ -1,6 +1,5 @@
 pub mod Shapes
 pub mod Beside
-pub mod KindThere
 pub mod Defined
 pub mod PartRows
 pub mod OrderedRows

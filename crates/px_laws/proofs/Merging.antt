@@ -16,19 +16,20 @@ use Rattle.px_value.specs.declared.method.GroupByMethod.TheVariants.{Min, Max, S
 use Rattle.px_frame.specs.Cell.{Cell, unit, rows, value_of_cell}
 use Rattle.px_frame.specs.External.{Frame, height, scope_of, rows_of_frame}
 use Rattle.px_frame.specs.Frame.{height_of, series_at}
-use Rattle.px_plan.specs.Node.{is_unit_cell, function_cell, reduction_cell}
-use Rattle.px_plan.specs.Nodes.{leaf_names}
-use Rattle.px_plan.specs.Partition.{is_elementwise, are_elementwise, is_row_function, is_merged_method, inner_rows, merged_by}
-use Rattle.px_plan.specs.Shape.{is_unit, is_unit_first, are_units, is_literal_tree, are_literal_trees, has_implode}
-use Rattle.px_plan.specs.Tree.{Tree, Trees, no_trees, one_tree, column, literal, alias, binary, ternary, cast, function, filter, slice, gather, sort, sort_by, agg, len, window}
-use Rattle.px_plan.specs.Typing.{Scope, kind_in, kinds_in, made_kind, refusals_of, refused_where, grouped_reduction_refusals, implode_refusal}
-use Rattle.px_plan.specs.Value.{value_on, outcome_on, made, cells_on, first_kind, is_misfit}
-use Rattle.px_plan.specs.declared.context.Context.TheVariants.{Aggregation}
-use Rattle.px_plan.specs.declared.function.FunctionExpr.{FunctionExpr}
-use Rattle.px_plan.specs.declared.function.FunctionExpr.TheVariants.{IsNull, IsNotNull, Not, IsBetween, IsIn, Reverse, Shift, DropNulls, NullCount, Explode}
+use Rattle.px_expression.specs.Node.{is_unit_cell, function_cell, reduction_cell}
+use Rattle.px_expression.specs.Nodes.{leaf_names}
+use Rattle.px_expression.specs.Partition.{is_elementwise, are_elementwise, is_row_function, is_merged_method, inner_rows, merged_by}
+use Rattle.px_expression.specs.Shape.{is_unit, is_unit_first, are_units, is_literal_tree, are_literal_trees, has_implode}
+use Rattle.px_expression.specs.Tree.{Tree, Trees, no_trees, one_tree, column, literal, alias, binary, ternary, cast, function, filter, slice, gather, sort, sort_by, agg, len, window}
+use Rattle.px_expression.specs.Typing.{Scope, kind_in, kinds_in, made_kind, refusals_of, refused_where, grouped_reduction_refusals, implode_refusal}
+use Rattle.px_expression.specs.Value.{value_on, outcome_on, made, cells_on, first_kind, is_misfit}
+use Rattle.px_expression.specs.declared.context.Context.TheVariants.{Aggregation}
+use Rattle.px_expression.specs.declared.function.FunctionExpr.{FunctionExpr}
+use Rattle.px_expression.specs.declared.function.FunctionExpr.TheVariants.{IsNull, IsNotNull, Not, IsBetween, IsIn, Reverse, Shift, DropNulls, NullCount, Explode}
 use Rattle.px_laws.proofs.Defined.{scope_of_rows}
-use Rattle.px_laws.proofs.Joining.{both_true, under_name, value_joins}
-use Rattle.px_laws.proofs.KindThere.{none_left, none_right, none_first, none_own}
+use Rattle.px_laws.proofs.Joining.{under_name, value_joins}
+use Rattle.px_value.specs.FitLaws.{both as both_true}
+use Rattle.px_expression.specs.KindLaws.{none_left, none_right, none_first, none_own}
 use Rattle.px_laws.proofs.RowCount.{value_long}
 use Rattle.px_laws.proofs.Shapes.{bound, made_bound, made_ok, shape_of_value}
 use Rattle.px_laws.proofs.Sums.{sum_merges, count_merges}
@@ -38,16 +39,12 @@ use Rattle.px_laws.proofs.Typed.{value_sorted}
 use Rattle.px_laws.specs.Fitting.{has_fitting_columns, has_fitting_literals}
 use Rattle.std.proofs.lemmas.List.Folds.{list_all-append}
 use Rattle.px_laws.specs.Merge.{has_rows, are_parts, rows_of_parts, value_at, OnParts, is_extreme, PartsMerge}
+use Rattle.px_laws.proofs.Beside.{each_same}
 
 -- what is mapped comes from what is there
 mapped : {A B : Type 0} (o : Option A) (f : A → B) (b : B) → option_map f o ≡ Some b → (a : A) × (o ≡ Some a) × (f a ≡ b)
 mapped None f b h = cc
 mapped (Some a) f b h = (a, refl, cc)
-
--- the same is made of each by the same
-each_same : {A B : Type 0} (f g : A → Option B) (xs : List A) → ((x : A) → f x ≡ g x) → each f xs ≡ each g xs
-each_same f g [] h = refl
-each_same f g (x ∷ xs) h = λ i. h x i >>= λ y. option_map (λ ys. y ∷ ys) (each_same f g xs h i)
 
 -- one cell comes from one tree
 one_unit : (es : Trees) (frame : Frame) (a : Cell) → is_unit_first es ≡ true → cells_on es frame ≡ Some (a ∷ []) → are_units es ≡ true

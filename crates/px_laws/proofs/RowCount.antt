@@ -13,15 +13,16 @@ use Rattle.px_frame.specs.Cell.{Cell, unit, rows}
 use Rattle.px_frame.specs.External.{Frame, look_in, scope_of, rows_of_frame}
 use Rattle.px_frame.specs.Frame.{slots_at}
 use Rattle.px_frame.specs.Spread.{spread, rows_beside}
-use Rattle.px_plan.specs.Node.{chosen, is_unit_cell, cell_of, map_cell, zip_cells, zip_three_cells, cast_cell, function_cell}
-use Rattle.px_plan.specs.Nodes.{leaf_names, all_leaf_names}
-use Rattle.px_plan.specs.Partition.{is_elementwise, are_elementwise, is_row_function}
-use Rattle.px_plan.specs.Tree.{Tree, Trees, Literal, single, range, series, no_trees, one_tree, column, literal, alias, binary, ternary, cast, function, filter, slice, gather, sort, sort_by, agg, len, window}
-use Rattle.px_plan.specs.Typing.{Scope, kind_in, kinds_in}
-use Rattle.px_plan.specs.Value.{value_on, outcome_on, made, cells_on, first_kind, is_misfit}
-use Rattle.px_plan.specs.declared.function.FunctionExpr.{FunctionExpr}
-use Rattle.px_plan.specs.declared.function.FunctionExpr.TheVariants.{IsNull, IsNotNull, Not, IsBetween, IsIn, Reverse, Shift, DropNulls, NullCount, Explode}
-use Rattle.px_laws.proofs.Joining.{same_list, neither, both_true, no_misfits, column_rows, under_name, before_parts, items_first, both_ok, length_zip}
+use Rattle.px_expression.specs.Node.{chosen, is_unit_cell, cell_of, map_cell, zip_cells, zip_three_cells, cast_cell, function_cell}
+use Rattle.px_expression.specs.Nodes.{leaf_names, all_leaf_names}
+use Rattle.px_expression.specs.Partition.{is_elementwise, are_elementwise, is_row_function}
+use Rattle.px_expression.specs.Tree.{Tree, Trees, Literal, single, range, series, no_trees, one_tree, column, literal, alias, binary, ternary, cast, function, filter, slice, gather, sort, sort_by, agg, len, window}
+use Rattle.px_expression.specs.Typing.{Scope, kind_in, kinds_in}
+use Rattle.px_expression.specs.Value.{value_on, outcome_on, made, cells_on, first_kind, is_misfit}
+use Rattle.px_expression.specs.declared.function.FunctionExpr.{FunctionExpr}
+use Rattle.px_expression.specs.declared.function.FunctionExpr.TheVariants.{IsNull, IsNotNull, Not, IsBetween, IsIn, Reverse, Shift, DropNulls, NullCount, Explode}
+use Rattle.px_laws.proofs.Joining.{same_list, neither, no_misfits, column_rows, under_name, before_parts, items_first, both_ok, length_zip}
+use Rattle.px_value.specs.FitLaws.{both as both_true}
 use Rattle.px_laws.proofs.Shapes.{bound, made_bound, made_ok, result_bound}
 
 -- a unit, or n places

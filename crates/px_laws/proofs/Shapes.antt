@@ -20,17 +20,17 @@ use Rattle.px_value.specs.declared.sort_options.SortMultipleOptions.{SortMultipl
 use Rattle.px_frame.specs.Cell.{Cell, unit, rows, list_of}
 use Rattle.px_frame.specs.External.{Frame, height, look_in, scope_of}
 use Rattle.px_frame.specs.Spread.{spread, rows_beside}
-use Rattle.px_plan.specs.Node.{chosen, is_unit_cell, cell_of, map_cell, zip_cells, zip_three_cells, literal_cell, integers, cast_cell, function_cell, filter_cell, slice_cell, one_value, offset_of, length_of, gather_cell, is_null_unit, is_index, indexed, sort_by_cell, spread_keys, reduction_cell}
-use Rattle.px_plan.specs.Window.{window_cell, placed}
-use Rattle.px_plan.specs.Shape.{is_unit, is_unit_first, are_units, is_single, is_implode, is_literal_tree}
-use Rattle.px_plan.specs.Tree.{Tree, Trees, Literal, single, range, series, no_trees, one_tree, column, literal, alias, binary, ternary, cast, function, filter, slice, gather, sort, sort_by, agg, len, window}
-use Rattle.px_plan.specs.declared.function.FunctionExpr.{FunctionExpr}
-use Rattle.px_plan.specs.declared.function.FunctionExpr.TheVariants.{IsNull, IsNotNull, Not, IsBetween, IsIn, Reverse, Shift, DropNulls, NullCount, Explode}
-use Rattle.px_plan.specs.declared.window.WindowMapping.{WindowMapping}
-use Rattle.px_plan.specs.declared.window.WindowMapping.TheVariants as win
-use Rattle.px_plan.specs.declared.window.WindowMapping.TheVariants.{GroupsToRows, Join}
-use Rattle.px_plan.specs.Value.{value_on, outcome_on, made, cells_on, named_on, order_on, first_kind, whole_window, window_parts}
-use Rattle.px_plan.specs.Typing.{kind_in, kinds_in}
+use Rattle.px_expression.specs.Node.{chosen, is_unit_cell, cell_of, map_cell, zip_cells, zip_three_cells, literal_cell, integers, cast_cell, function_cell, filter_cell, slice_cell, one_value, offset_of, length_of, gather_cell, is_null_unit, is_index, indexed, sort_by_cell, spread_keys, reduction_cell}
+use Rattle.px_expression.specs.Window.{window_cell, placed}
+use Rattle.px_expression.specs.Shape.{is_unit, is_unit_first, are_units, is_single, is_implode, is_literal_tree}
+use Rattle.px_expression.specs.Tree.{Tree, Trees, Literal, single, range, series, no_trees, one_tree, column, literal, alias, binary, ternary, cast, function, filter, slice, gather, sort, sort_by, agg, len, window}
+use Rattle.px_expression.specs.declared.function.FunctionExpr.{FunctionExpr}
+use Rattle.px_expression.specs.declared.function.FunctionExpr.TheVariants.{IsNull, IsNotNull, Not, IsBetween, IsIn, Reverse, Shift, DropNulls, NullCount, Explode}
+use Rattle.px_expression.specs.declared.window.WindowMapping.{WindowMapping}
+use Rattle.px_expression.specs.declared.window.WindowMapping.TheVariants as win
+use Rattle.px_expression.specs.declared.window.WindowMapping.TheVariants.{GroupsToRows, Join}
+use Rattle.px_expression.specs.Value.{value_on, outcome_on, made, cells_on, named_on, order_on, first_kind, whole_window, window_parts}
+use Rattle.px_expression.specs.Typing.{kind_in, kinds_in}
 
 -- what comes next is there where what came before is
 pub bound : {A B : Type 0} (o : Option A) (f : A → Option B) (b : B) → (o >>= f) ≡ Some b → (a : A) × (o ≡ Some a) × (f a ≡ Some b)

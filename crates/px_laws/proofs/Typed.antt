@@ -13,32 +13,23 @@ use Rattle.px_frame.specs.Cell.{Cell, unit, rows}
 use Rattle.px_frame.specs.External.{Frame, look_in, scope_of, rows_of_frame, with_field}
 use Rattle.px_frame.specs.Frame.{look, has_name, name_eq, slots_at}
 use Rattle.px_frame.specs.Schema.{FieldKind, column_field, has_field_name, is_field_name}
-use Rattle.px_plan.specs.Node.{chosen, binary_cell}
-use Rattle.px_plan.specs.Nodes.{leaf_names}
-use Rattle.px_plan.specs.Partition.{is_elementwise, are_elementwise, is_row_function}
-use Rattle.px_plan.specs.Tree.{Tree, Literal, single, range, series, column, literal, alias, binary, ternary, cast, function, filter, slice, gather, sort, sort_by, agg, len, window}
-use Rattle.px_plan.specs.Typing.{Scope, kind_in, kinds_in, kind_of_name, refusals_of, refused_where, refusal_of, refusal_of_two, fails}
-use Rattle.px_plan.specs.Value.{value_on, outcome_on, made, cells_on, first_kind, is_misfit}
-use Rattle.px_plan.specs.declared.context.Context.TheVariants.{Aggregation}
-use Rattle.px_laws.proofs.Beside.{field_look, scope_stays}
+use Rattle.px_expression.specs.Node.{chosen, binary_cell}
+use Rattle.px_expression.specs.Nodes.{leaf_names}
+use Rattle.px_expression.specs.Partition.{is_elementwise, are_elementwise, is_row_function}
+use Rattle.px_expression.specs.Tree.{Tree, Literal, single, range, series, column, literal, alias, binary, ternary, cast, function, filter, slice, gather, sort, sort_by, agg, len, window}
+use Rattle.px_expression.specs.Typing.{Scope, kind_in, kinds_in, kind_of_name, refusals_of, refused_where, refusal_of, refusal_of_two, fails}
+use Rattle.px_expression.specs.Value.{value_on, outcome_on, made, cells_on, first_kind, is_misfit}
+use Rattle.px_expression.specs.declared.context.Context.TheVariants.{Aggregation}
+use Rattle.px_laws.proofs.Beside.{scope_stays}
 use Rattle.px_laws.proofs.Defined.{scope_of_rows, missing_stays}
 use Rattle.px_laws.proofs.Extremes.{kind_sort, slot_fits_sort}
-use Rattle.px_laws.proofs.Joining.{neither, both_true, no_misfits, column_rows, under_name}
-use Rattle.px_laws.proofs.KindThere.{none_left, none_right, none_first, none_own, kind_there}
+use Rattle.px_laws.proofs.Joining.{neither, no_misfits, column_rows, under_name}
+use Rattle.px_value.specs.FitLaws.{both as both_true}
+use Rattle.px_expression.specs.KindLaws.{none_left, none_right, none_first, none_own, kind_there}
 use Rattle.px_laws.proofs.Shapes.{bound, made_bound, made_ok}
 use Rattle.px_laws.proofs.Sorted.{is_cell_of, operated_sorted, cast_sorted, zip_sorted, three_sorted, choice_sorted, any_sorted, function_sorted, row_function_kind, rows_sorted, unit_sorted, as_kind}
 use Rattle.px_laws.specs.Fitting.{is_fitting, has_fitting_columns, is_fitting_literal, has_fitting_literals}
-
--- names that pass the test are the same
-names_same : (n m : List ℕ) → name_eq n m ≡ true → n ≡ m
-names_same [] [] h = refl
-names_same [] (y ∷ ys) h = cc
-names_same (x ∷ xs) [] h = cc
-names_same (x ∷ xs) (y ∷ ys) h =
-    let s = both_true (x == y) (name_eq xs ys) h in
-    let t : (x == y) ≡ true = s.0 in
-    let e : x ≡ y = grind (arith, nat_tests) in
-    λ i. e i ∷ names_same xs ys s.1 i
+use Rattle.px_frame.specs.LookLaws.{field_look, names_same}
 
 -- a name that finds no field is no field's name
 no_field : (n : List ℕ) (fields : List FieldKind) → find (has_field_name n) fields ≡ None → is_field_name n fields ≡ false

@@ -7,10 +7,10 @@ use Rattle.px_value.specs.declared.error.PxError.TheVariants.{InvalidOperation, 
 use Rattle.px_value.specs.declared.error.InvalidWhy.TheVariants.{Types}
 use Rattle.px_value.specs.declared.error.ComputeWhy.TheVariants.{SingleIndex}
 use Rattle.px_plan.specs.Places.{IsRefusedMoreOnGroups, KeepsTypeOnFrame}
-use Rattle.px_plan.specs.Shape.{is_unit}
-use Rattle.px_plan.specs.Tree.{Tree, Trees, single, range, series, no_trees, one_tree, column, literal, alias, binary, ternary, cast, function, filter, slice, gather, sort, sort_by, agg, len, window}
-use Rattle.px_plan.specs.Typing.{Scope, kind_in, kinds_in, function_kind, refused_where, fails, refusal_of_all, scalar_refusal, grouped_function_refusals, is_one_input_missing, own_refusals, refusals_of, all_refusals_of, order_refusals_of, or_first, first_or_kind}
-use Rattle.px_plan.specs.declared.context.Context.TheVariants.{Default, Aggregation}
+use Rattle.px_expression.specs.Shape.{is_unit}
+use Rattle.px_expression.specs.Tree.{Tree, Trees, single, range, series, no_trees, one_tree, column, literal, alias, binary, ternary, cast, function, filter, slice, gather, sort, sort_by, agg, len, window}
+use Rattle.px_expression.specs.Typing.{Scope, kind_in, kinds_in, function_kind, refused_where, fails, refusal_of_all, scalar_refusal, grouped_function_refusals, is_one_input_missing, own_refusals, refusals_of, all_refusals_of, order_refusals_of, or_first, first_or_kind}
+use Rattle.px_expression.specs.declared.context.Context.TheVariants.{Default, Aggregation}
 
 none_left : (xs ys : List PxError) → xs ++ ys ≡ [] → xs ≡ []
 none_left [] ys h = refl

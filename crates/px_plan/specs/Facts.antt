@@ -12,14 +12,14 @@ use Rattle.px_value.specs.declared.error.InvalidWhy.TheVariants.{WindowOnGroups,
 use Rattle.px_value.specs.declared.error.ComputeWhy.TheVariants.{AggLiteral, AggScalar, SingleIndex, NoKey}
 use Rattle.px_value.specs.declared.method.GroupByMethod.{GroupByMethod}
 use Rattle.px_value.specs.declared.operator.Operator.{Operator}
-use Rattle.px_plan.specs.Shape.{is_single, is_implode}
-use Rattle.px_plan.specs.Tree.{Tree, Trees, Order, Literal, range, no_trees, one_tree, no_order, ordered, column, literal, alias, binary, ternary, cast, function, filter, slice, gather, sort, sort_by, agg, len, window}
-use Rattle.px_plan.specs.Typing.{Scope, kind_of_name, literal_kind, is_range_kind, is_integer_or_null, compared_kind, function_kind, window_kind}
-use Rattle.px_plan.specs.declared.context.Context.{Context}
-use Rattle.px_plan.specs.declared.context.Context.TheVariants.{Default, Aggregation}
-use Rattle.px_plan.specs.declared.function.FunctionExpr.{FunctionExpr}
-use Rattle.px_plan.specs.declared.function.FunctionExpr.TheVariants.{IsNull, IsNotNull, Not, IsBetween, IsIn, Reverse, Shift, DropNulls, NullCount, Explode}
-use Rattle.px_plan.specs.declared.window.WindowMapping.{WindowMapping}
+use Rattle.px_expression.specs.Shape.{is_single, is_implode}
+use Rattle.px_expression.specs.Tree.{Tree, Trees, Order, Literal, range, no_trees, one_tree, no_order, ordered, column, literal, alias, binary, ternary, cast, function, filter, slice, gather, sort, sort_by, agg, len, window}
+use Rattle.px_expression.specs.Typing.{Scope, kind_of_name, literal_kind, is_range_kind, is_integer_or_null, compared_kind, function_kind, window_kind, is_on_groups}
+use Rattle.px_expression.specs.declared.context.Context.{Context}
+use Rattle.px_expression.specs.declared.context.Context.TheVariants.{Default, Aggregation}
+use Rattle.px_expression.specs.declared.function.FunctionExpr.{FunctionExpr}
+use Rattle.px_expression.specs.declared.function.FunctionExpr.TheVariants.{IsNull, IsNotNull, Not, IsBetween, IsIn, Reverse, Shift, DropNulls, NullCount, Explode}
+use Rattle.px_expression.specs.declared.window.WindowMapping.{WindowMapping}
 
 -- the type, whether it is a unit, whether each leaf is a literal, and whether an Implode stands in it
 pub record Facts : Type 0 where
@@ -47,11 +47,6 @@ all_literals inputs = list_all (λ a. a.literal) inputs
 -- an Implode stands in one of the inputs
 abbrev pub any_implode : List Facts → Bool
 any_implode inputs = list_any (λ a. a.implode) inputs
-
--- the place is on groups
-abbrev pub is_on_groups : Context → Bool
-is_on_groups Default = false
-is_on_groups Aggregation = true
 
 -- one value in each group, which is not made of literals
 abbrev pub is_scalar : Context → Facts → Bool

@@ -1,9 +1,9 @@
 -- Groups beside the frame: groups refuse more, and give no other type.
 use Rattle.std.specs.Prelude.{◌≡◌, [], Ok}
 use Rattle.px_value.specs.Kind.{Kind}
-use Rattle.px_plan.specs.Tree.{Tree}
-use Rattle.px_plan.specs.Typing.{Scope, refusals_of, type_of}
-use Rattle.px_plan.specs.declared.context.Context.TheVariants.{Default, Aggregation}
+use Rattle.px_expression.specs.Tree.{Tree}
+use Rattle.px_expression.specs.Typing.{Scope, refusals_of, type_of}
+use Rattle.px_expression.specs.declared.context.Context.TheVariants.{Default, Aggregation}
 
 -- what is not refused on groups is not refused on the frame
 abbrev pub IsRefusedMoreOnGroups : Tree → Type 0

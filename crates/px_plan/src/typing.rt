@@ -5,24 +5,22 @@ ghost use Rattle.px_value.specs.KindView.{kind_of};
 ghost use Rattle.px_plan.specs.Facts.{facts_in, all_facts_in, order_facts_in, agg_facts};
 ghost use Rattle.px_plan.specs.FactsView.{facts_of, all_facts_of};
 ghost use Rattle.px_plan.specs.Places.{IsRefusedMoreOnGroups, KeepsTypeOnFrame};
-ghost use Rattle.px_plan.specs.Typing.{type_of};
-ghost use Rattle.px_plan.specs.View.{tree, trees, agg_tree, order_tree};
-ghost use Rattle.px_plan.specs.declared.context.Context.TheVariants.{Aggregation};
+ghost use Rattle.px_expression.specs.Typing.{type_of};
+ghost use Rattle.px_expression.specs.View.{tree, trees, agg_tree, order_tree};
+ghost use Rattle.px_expression.specs.declared.context.Context.TheVariants.{Aggregation};
 
 mod functions;
 mod nodes;
 mod typed;
 mod types;
 
-use crate::context::Context;
-use crate::expr::{AggExpr, Expr, Exprs};
-use crate::function::FunctionExpr;
 use functions::{typed_function, typed_of_one};
 use nodes::{
     typed_agg, typed_binary, typed_cast, typed_column, typed_filter, typed_gather, typed_len,
     typed_literal, typed_slice, typed_sort, typed_sort_by, typed_ternary, typed_window,
 };
 use px_column::{DataType, GroupByMethod, Px, SortOptions};
+use px_expression::{AggExpr, Context, Expr, Exprs, FunctionExpr};
 use px_frame::Schema;
 use std::alloc::Global;
 use typed::Typed;

@@ -11,9 +11,9 @@ use Rattle.px_frame.specs.CellView.{named_cell}
 use Rattle.px_frame.specs.External.{Frame}
 use Rattle.px_frame.specs.Spread.{NamedCell}
 use Rattle.px_frame.specs.declared.cell.Cell.{Cell}
-use Rattle.px_plan.specs.Value.{faults_on}
+use Rattle.px_expression.specs.Value.{faults_on}
 use Rattle.px_steps.specs.Causes.{IsCauseOfAny}
-use Rattle.px_steps.specs.Form.{with_front}
+use Rattle.px_document.specs.Form.{with_front}
 use Rattle.px_steps.specs.Plain.{named_value}
 use Rattle.px_steps.proofs.Members.{front_moved}
 

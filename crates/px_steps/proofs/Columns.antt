@@ -9,10 +9,12 @@ use Rattle.px_value.specs.declared.error.InvalidWhy.TheVariants.{ListKey}
 use Rattle.px_frame.specs.Aggregate.{key_column}
 use Rattle.px_frame.specs.Frame.{names_of, height_of, has_height, all_have_height, is_even}
 use Rattle.px_frame.specs.Groups.{Group, group_of, grouped, groups_by, first_row, is_list}
-use Rattle.px_plan.specs.Tree.{Tree}
-use Rattle.px_steps.specs.Built.{is_key}
+use Rattle.px_expression.specs.Tree.{Tree}
+use Rattle.px_steps.specs.Finds.{is_key}
 use Rattle.px_value.specs.Option.{each}
 use Rattle.px_steps.specs.Plain.{key_values}
+use Rattle.px_value.specs.FitLaws.{both}
+use Rattle.px_frame.specs.LookLaws.{has_length}
 
 pub and_then_some : {A B : Type 0} (o : Option A) (f : A → Option B) (b : B) → option_and_then f o ≡ Some b → (a : A) × (o ≡ Some a) × (f a ≡ Some b)
 and_then_some None f b h = cc
@@ -45,9 +47,6 @@ pub names_of_keys : (ps : List (List ℕ)) (by : List Series) → names_of (map 
 names_of_keys ps [] = refl
 names_of_keys ps (s ∷ by) = ap (λ ns. s.name ∷ ns) (names_of_keys ps by)
 
-pub has_length : (n : ℕ) (s : Series) → length s.slots ≡ n → has_height n s ≡ true
-has_length n s h = grind (arith, nat_tests)
-
 pub heights_of_keys : (ps : List (List ℕ)) (by : List Series) → all_have_height (length ps) (map (key_values ps) by) ≡ true
 heights_of_keys ps [] = refl
 heights_of_keys ps (s ∷ by) = λ i. has_length (length ps) (key_values ps s) (length-map ps (λ p. slot_at s.slots (first_row p))) i && heights_of_keys ps by i
@@ -78,24 +77,9 @@ all_append test (x ∷ xs) ys h k = by (test x) (list_all test xs) h (all_append
     by true b e rest = rest e k
     by false b e rest = cc
 
-pub map_append : {A B : Type 0} (f : A → B) (xs ys : List A) → map f (xs ++ ys) ≡ map f xs ++ map f ys
-map_append f [] ys = refl
-map_append f (x ∷ xs) ys = ap (λ zs. f x ∷ zs) (map_append f xs ys)
-
-pub both : (a b : Bool) → (a && b) ≡ true → (a ≡ true) × (b ≡ true)
-both true b h = (refl, h)
-both false b h = cc
-
-its_length : (n : ℕ) (s : Series) → has_height n s ≡ true → n ≡ length s.slots
-its_length n s h = grind (arith, nat_tests)
-
 un_not : (b : Bool) → not b ≡ true → b ≡ false
 un_not true h = cc
 un_not false h = refl
-
-pub even_from : (n : ℕ) (columns : List Series) → all_have_height n columns ≡ true → is_even columns ≡ true
-even_from n [] h = refl
-even_from n (s ∷ columns) h = subst (λ (m : ℕ). all_have_height m (s ∷ columns) ≡ true) (its_length n s (both (has_height n s) (all_have_height n columns) h).0) h
 
 -- keys are no lists and have the frame's height
 keys_plain : (frame by : List Series) → list_all (is_key frame) by ≡ true → list_any is_list by ≡ false

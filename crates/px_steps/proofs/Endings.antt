@@ -5,11 +5,12 @@ use Rattle.px_value.specs.declared.error.PxError.{PxError}
 use Rattle.px_value.specs.declared.error.PxError.TheVariants.{OutOfMemory}
 use Rattle.px_frame.specs.External.{alone}
 use Rattle.px_steps.specs.Causes.{IsCauseIn}
-use Rattle.px_steps.specs.Document.{Doc}
-use Rattle.px_steps.specs.Ends.{IsTooLong, Rose, TakesAll, TakesPart}
-use Rattle.px_steps.specs.Label.{bad_document_line}
+use Rattle.px_document.specs.Document.{Doc}
+use Rattle.px_ends.specs.Ends.{IsTooLong, Rose, TakesAll, TakesPart}
+use Rattle.px_document.specs.Label.{bad_document_line}
 use Rattle.px_steps.specs.Plain.{AreValid}
-use Rattle.px_steps.specs.Reply.{IsDocument, IsNoDocument, IsRefusal}
+use Rattle.px_document.specs.DocumentText.{IsDocument}
+use Rattle.px_steps.specs.Reply.{IsNoDocument, IsRefusal}
 use Rattle.px_steps.specs.Run.{Calm, Ends}
 use Rattle.px_steps.specs.declared.status.Status.{Status}
 use Rattle.px_steps.specs.declared.status.Status.TheVariants as ended

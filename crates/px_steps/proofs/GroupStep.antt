@@ -25,30 +25,30 @@ use Rattle.px_frame.specs.Groups.{Groups, groups_by, rows_of}
 use Rattle.px_frame.specs.Parts.{parts_of}
 use Rattle.px_frame.specs.Schema.{column_field}
 use Rattle.px_frame.specs.Spread.{NamedCell, spread, spread_column, with_slots}
-use Rattle.px_plan.specs.Shape.{name_of}
-use Rattle.px_plan.specs.Size.{size_on}
-use Rattle.px_plan.specs.Tree.{Tree}
-use Rattle.px_plan.specs.View.{tree}
-use Rattle.px_plan.specs.declared.expr.Expr.{Expr}
-use Rattle.px_plan.specs.Typing.{Scope, fails, first_or_kind, kind_in, not_list, refusals_of, refused_where, type_of}
-use Rattle.px_plan.specs.Value.{faults_on, value_on}
-use Rattle.px_plan.specs.declared.context.Context.{Context}
-use Rattle.px_plan.specs.declared.context.Context.TheVariants.{Aggregation, Default}
-use Rattle.px_steps.specs.Built.{is_key}
+use Rattle.px_expression.specs.Shape.{name_of}
+use Rattle.px_expression.specs.Size.{size_on}
+use Rattle.px_expression.specs.Tree.{Tree}
+use Rattle.px_expression.specs.View.{tree}
+use Rattle.px_expression.specs.declared.expr.Expr.{Expr}
+use Rattle.px_expression.specs.Typing.{Scope, fails, first_or_kind, kind_in, not_list, refusals_of, refused_where, type_of}
+use Rattle.px_expression.specs.Value.{faults_on, value_on}
+use Rattle.px_expression.specs.declared.context.Context.{Context}
+use Rattle.px_expression.specs.declared.context.Context.TheVariants.{Aggregation, Default}
+use Rattle.px_steps.specs.Finds.{is_key}
 use Rattle.px_steps.specs.Causes.{IsStepCause, StepAnswers}
 use Rattle.px_steps.specs.Finds.{Finds, IsAccepted, Lacks, key_faults, part_faults, part_frames, repeat_beside, typed_key_refusals}
-use Rattle.px_steps.specs.Form.{with_front}
+use Rattle.px_document.specs.Form.{with_front}
 use Rattle.px_steps.specs.Meets.{IsFirst}
 use Rattle.px_steps.specs.Plain.{agg_refusals, aggregated_on, columns_on, first_of, frames_by, greatest, grouped_kind, height_fault, key_on, key_refusals, key_values, named_value, no_key_refusal, refused_by, repeat_refusal, step_faults, step_refusals, value_on_part, group_frames}
-use Rattle.px_steps.specs.Step.{group}
-use Rattle.px_steps.proofs.Columns.{all_append, all_true, and_then_some, even_from, has_length, heights_of_keys, keys_of_groups, made_each, map_append, names_of_keys, rows_of_groups}
+use Rattle.px_document.specs.Step.{group}
+use Rattle.px_steps.proofs.Columns.{all_append, all_true, and_then_some, heights_of_keys, keys_of_groups, made_each, names_of_keys, rows_of_groups}
+use Rattle.px_frame.specs.LookLaws.{has_length}
+use Rattle.px_frame.specs.LookLaws.{even_from}
 use Rattle.px_steps.proofs.Grouping.{accepted_lacks, no_refusal, value_there}
-use Rattle.px_steps.proofs.Selected.{There, kind_there, name_kept, nil_left, nil_right, no_misfits, once_none, one_left, one_right, refuses_or}
+use Rattle.px_steps.proofs.Selected.{name_kept, no_misfits, once_none, one_left, one_right, refuses_or}
 use Rattle.px_steps.proofs.Named.{IsFirst_append, refuses_first, refuses_none}
-
-append_nil : {A : Type 0} (xs : List A) → xs ++ [] ≡ xs
-append_nil [] = refl
-append_nil (x ∷ xs) = ap (λ ys. x ∷ ys) (append_nil xs)
+use Rattle.px_expression.specs.KindLaws.{There, kind_there, none_left as nil_left, none_right as nil_right}
+use Rattle.std.proofs.lemmas.List.{append-nil as append_nil, map-append as map_append}
 
 -- a name of some more that stands twice
 pub repeat_more : (seen first more : List (List ℕ)) → first_repeat seen first ≡ None → first_repeat seen (first ++ more) ≡ first_repeat (seen ++ first) more
@@ -315,7 +315,7 @@ module _ (cs : List Series) (keys aggs : List Tree) (none : step_refusals (group
 
 -- the first refusal in place of a type
 pub type_refused : (e : PxError) (t : Tree) (scope : Scope) (place : Context) → is_built_tree t ≡ true → Refuses e (type_of t scope place) → IsFirst e (refusals_of t scope place)
-type_refused e t scope place b h = by (refusals_of t scope place) (kind_in t scope) (kind_there t scope place b) h
+type_refused e t scope place b h = by (refusals_of t scope place) (kind_in t scope) (kind_there t scope place) h
   where
     by : (R : List PxError) (K : Option Kind) → (R ≡ [] → There K) → Refuses e (first_or_kind R K) → IsFirst e R
     by [] None there h = let k = there refl in cc

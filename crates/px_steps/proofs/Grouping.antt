@@ -22,22 +22,24 @@ use Rattle.px_frame.specs.Frame.{are_below, subframe}
 use Rattle.px_frame.specs.Groups.{Group, IsGroups, is_group}
 use Rattle.px_frame.specs.Schema.{column_field}
 use Rattle.px_frame.specs.Spread.{NamedCell}
-use Rattle.px_plan.specs.Node.{is_unit_cell}
-use Rattle.px_plan.specs.Shape.{is_unit, name_of}
-use Rattle.px_plan.specs.Size.{count_on, counts_on, size_on}
-use Rattle.px_plan.specs.Tree.{Tree, Literal, single, range, series, column, literal, alias, agg, len}
-use Rattle.px_plan.specs.Typing.{Scope, kind_in, grouped_reduction_refusals, first_or_kind, or_first, refusal_of_one, refusals_of, type_of}
-use Rattle.px_plan.specs.Value.{faults_on, value_on}
-use Rattle.px_plan.specs.declared.context.Context.{Context}
-use Rattle.px_plan.specs.declared.context.Context.TheVariants.{Aggregation, Default}
+use Rattle.px_expression.specs.Node.{is_unit_cell}
+use Rattle.px_expression.specs.Shape.{is_unit, name_of}
+use Rattle.px_expression.specs.Size.{count_on, counts_on, size_on}
+use Rattle.px_expression.specs.Tree.{Tree, Literal, single, range, series, column, literal, alias, agg, len}
+use Rattle.px_expression.specs.Typing.{Scope, kind_in, grouped_reduction_refusals, first_or_kind, or_first, refusal_of_one, refusals_of, type_of}
+use Rattle.px_expression.specs.Value.{faults_on, value_on}
+use Rattle.px_expression.specs.declared.context.Context.{Context}
+use Rattle.px_expression.specs.declared.context.Context.TheVariants.{Aggregation, Default}
 use Rattle.px_steps.specs.Direct as direct
 use Rattle.px_steps.specs.DirectLaws.{len_same, sum_refused, sum_same}
 use Rattle.px_steps.specs.Finds.{Finds, FindsBy, FitsGrouped, IsAccepted, Lacks, part_faults, part_frames, value_kind}
 use Rattle.px_steps.specs.Meets.{IsFirst, Meets}
 use Rattle.px_steps.specs.Plain.{agg_refusals, aggregated_on, grouped_kind, named_value, value_on_part}
-use Rattle.px_steps.proofs.Columns.{both, map_some}
+use Rattle.px_steps.proofs.Columns.{map_some}
+use Rattle.px_value.specs.FitLaws.{both}
 use Rattle.px_steps.proofs.Members.{In, in_map, in_one, in_sum}
-use Rattle.px_steps.proofs.Selected.{cause_lacks, faults_alone, inputs_none, kind_there, nil_right, own_none}
+use Rattle.px_steps.proofs.Selected.{cause_lacks, faults_alone}
+use Rattle.px_expression.specs.KindLaws.{kind_there, none_first as inputs_none, none_right as nil_right, none_own as own_none}
 
 -- where there is no refusal, memory was wanting
 pub no_first : (e : PxError) (refusals : List PxError) → refusals ≡ [] → IsFirst e refusals → e ≡ OutOfMemory
@@ -211,7 +213,7 @@ column_finds cs parts t name kind xs r size h n values sound fit a =
 -- an expression that is not refused has a type, unless memory was wanting
 pub type_memory : (e : PxError) (t : Tree) (scope : Scope) (place : Context) → is_built_tree t ≡ true → refusals_of t scope place ≡ [] → Refuses e (type_of t scope place) → e ≡ OutOfMemory
 type_memory e t scope place b n h =
-    let k = kind_there t scope place b n in
+    let k = kind_there t scope place n in
     no_refusal e (type_of t scope place) k.0 (λ i. first_or_kind (n i) (k.1 i)) h
 
 pub no_cause : (e : PxError) → e ≡ OutOfMemory → IsFirst e []

@@ -1,7 +1,3 @@
-pub mod Views
-pub mod HasRead
-pub mod Taking
-pub mod Separated
 pub mod Named
 pub mod Selected
 pub mod Members
@@ -10,12 +6,7 @@ pub mod GroupStep
 pub mod CellLoop
 pub mod Grouped
 pub mod Columns
-pub mod OnlyIf
-pub mod Forms
-pub mod StepForms
-pub mod OnLiterals
 pub mod Replied
 pub mod StepLoop
 pub mod Endings
 pub mod Command
-pub mod Readings

@@ -14,11 +14,12 @@ use Rattle.px_value.specs.declared.method.GroupByMethod.TheVariants.{Sum}
 use Rattle.px_frame.specs.Aggregate.{summed_by, summed_by_kind, sums_of, counts_of}
 use Rattle.px_frame.specs.Frame.{has_name, look, series_at, slots_at, subframe}
 use Rattle.px_frame.specs.Groups.{Group, Groups, rows_of}
-use Rattle.px_plan.specs.Shape.{name_of}
+use Rattle.px_expression.specs.Shape.{name_of}
 use Rattle.px_steps.specs.Direct.{aggregated_on, agg_refusals, value_on_part}
-use Rattle.px_plan.specs.Tree.{column, agg, len}
+use Rattle.px_expression.specs.Tree.{column, agg, len}
 use Rattle.px_steps.specs.Meets.{IsFirst, Meets}
 use Rattle.px_steps.specs.Plain.{first_of}
+use Rattle.px_frame.specs.LookLaws.{look_rows as look-subframe}
 
 -- a refusal that is expected is the first one
 pub refuses_first : (Y : Type 0) (e first : PxError) (rest : List PxError) → Refuses {Y = Y} e (Err first) → IsFirst e (first ∷ rest)
@@ -41,16 +42,6 @@ refuses_none (ComputeError w) y refusals h = cc
 refuses_none OutOfBounds y refusals h = cc
 refuses_none ShapeMismatch y refusals h = cc
 refuses_none SchemaMismatch y refusals h = cc
-
--- a column of the frame of some rows
-look-subframe : (n : List ℕ) (frame : List Series) (p : List ℕ) → look n (subframe frame p) ≡ option_map (series_at p) (look n frame)
-look-subframe n [] p = refl
-look-subframe n (s ∷ frame) p = by (has_name n s) (look-subframe n frame p)
-  where
-    by : (b : Bool) → find (has_name n) (map (series_at p) frame) ≡ option_map (series_at p) (find (has_name n) frame)
-        → cond b (Some (series_at p s)) (find (has_name n) (map (series_at p) frame)) ≡ option_map (series_at p) (cond b (Some s) (find (has_name n) frame))
-    by true rest = refl
-    by false rest = rest
 
 sum_on_part : (n : List ℕ) (frame : List Series) (s : Series) (k : Kind) (p : List ℕ) → look n frame ≡ Some s → sum_kind s.kind ≡ Some k → value_on_part frame (agg Sum (column n)) p ≡ summed k (slots_at s.slots p)
 sum_on_part n frame s k p e h =

@@ -7,13 +7,14 @@ use Rattle.px_value.specs.declared.error.PxError.{PxError}
 use Rattle.px_value.specs.declared.error.PxError.TheVariants.{OutOfMemory}
 use Rattle.px_frame.specs.External.{alone}
 use Rattle.px_frame.specs.Frame.{height_of}
-use Rattle.px_steps.specs.Built.{is_built}
+use Rattle.px_document.specs.Built.{is_built}
 use Rattle.px_steps.specs.Causes.{AreSound, IsCauseIn}
-use Rattle.px_steps.specs.Document.{Doc}
-use Rattle.px_steps.specs.Label.{line_of}
+use Rattle.px_document.specs.Document.{Doc}
+use Rattle.px_document.specs.Label.{line_of}
 use Rattle.px_steps.specs.Plain.{groupings_of, plain_on}
-use Rattle.px_steps.specs.Reply.{IsDocument, IsResult, IsRefusal}
-use Rattle.px_steps.specs.Text.{text_of}
+use Rattle.px_document.specs.DocumentText.{IsDocument}
+use Rattle.px_steps.specs.Reply.{IsResult, IsRefusal}
+use Rattle.px_document.specs.Text.{text_of}
 
 -- the steps of a document can be run
 pub document_built : (bytes : List ℕ) (doc : Doc) → IsDocument bytes doc → list_all is_built doc.steps ≡ true

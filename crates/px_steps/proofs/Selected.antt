@@ -22,73 +22,32 @@ use Rattle.px_frame.specs.Cell.{Cell}
 use Rattle.px_frame.specs.Frame.{first_repeat, look, unless_repeated}
 use Rattle.px_frame.specs.Spread.{NamedCell, assembled, rows_beside, spread_all}
 use Rattle.px_frame.specs.Schema.{FieldKind, column_field, has_field_name}
-use Rattle.px_plan.specs.Node.{cell_of}
-use Rattle.px_plan.specs.Nodes.{leaf_names}
-use Rattle.px_plan.specs.Shape.{is_unit, name_of}
-use Rattle.px_plan.specs.Size.{size_on}
-use Rattle.px_plan.specs.Tree.{Tree, column, literal, alias, agg, len}
-use Rattle.px_plan.specs.Typing.{Scope, kind_in, kind_of_name, refusals_of, refused_where, refusal_of, refusal_of_one, made_kind, literal_kind, on_groups, grouped_reduction_refusals, or_first, first_or_kind}
-use Rattle.px_plan.specs.Value.{faults_on, is_misfit, has_misfit, value_on, named}
-use Rattle.px_plan.specs.declared.context.Context.{Context}
-use Rattle.px_plan.specs.declared.context.Context.TheVariants.{Default}
-use Rattle.px_steps.specs.DirectLaws.{field-look}
+use Rattle.px_expression.specs.Node.{cell_of}
+use Rattle.px_expression.specs.Nodes.{leaf_names}
+use Rattle.px_expression.specs.Shape.{is_unit, name_of}
+use Rattle.px_expression.specs.Size.{size_on}
+use Rattle.px_expression.specs.Tree.{Tree, column, literal, alias, agg, len}
+use Rattle.px_expression.specs.Typing.{Scope, kind_in, kind_of_name, refusals_of, refused_where, refusal_of, refusal_of_one, made_kind, literal_kind, on_groups, grouped_reduction_refusals, or_first, first_or_kind}
+use Rattle.px_expression.specs.Value.{faults_on, is_misfit, has_misfit, value_on, named}
+use Rattle.px_expression.specs.declared.context.Context.{Context}
+use Rattle.px_expression.specs.declared.context.Context.TheVariants.{Default}
+use Rattle.px_frame.specs.LookLaws.{field_look as field-look}
 use Rattle.px_steps.specs.Meets.{MeetsBy, IsFirst}
 use Rattle.px_steps.specs.Finds.{Lacks}
 use Rattle.px_steps.specs.Causes.{IsCauseOfAny, IsStepCause, StepAnswers}
 use Rattle.px_steps.specs.Plain.{first_of, first_refusal, frame_refusals, greatest, named_value, misfit_faults, refused_by, repeat_refusal, step_on, step_refusals, uneven_fault}
-use Rattle.px_steps.specs.Step.{PlainStep, select}
+use Rattle.px_document.specs.Step.{PlainStep, select}
 use Rattle.px_expr.specs.NodeView.{plan_of}
 use Rattle.px_expr.specs.declared.node.PhysExpr.{PhysExpr}
-use Rattle.px_steps.proofs.Columns.{both, made_each}
+use Rattle.px_steps.proofs.Columns.{made_each}
+use Rattle.px_value.specs.FitLaws.{both}
 use Rattle.px_steps.proofs.Named.{IsFirst_append, refuses_first, refuses_none}
-
-pub nil_left : {A : Type 0} (xs ys : List A) → xs ++ ys ≡ [] → xs ≡ []
-nil_left [] ys h = refl
-nil_left (x ∷ xs) ys h = cc
-
-pub nil_right : {A : Type 0} (xs ys : List A) → xs ++ ys ≡ [] → ys ≡ []
-nil_right [] ys h = h
-nil_right (x ∷ xs) ys h = cc
-
-pub inputs_none : (inputs own : List PxError) → or_first inputs own ≡ [] → inputs ≡ []
-inputs_none [] own h = refl
-inputs_none (e ∷ es) own h = cc
-
-pub own_none : (inputs own : List PxError) → or_first inputs own ≡ [] → own ≡ []
-own_none [] [] h = refl
-own_none [] (e ∷ es) h = cc
-own_none (e ∷ es) own h = cc
-
--- a value that is there
-abbrev pub There : {A : Type 0} → Option A → Type 0
-There {A} o = (a : A) × (o ≡ Some a)
-
-name_there : (o : Option Kind) (e : PxError) → refused_where (is_none o) e ≡ [] → There o
-name_there None e h = cc
-name_there (Some k) e h = (k, refl)
-
-typed_there : (r : Result Kind PxError) → refusal_of r ≡ [] → There (made_kind r)
-typed_there (Ok k) h = (k, refl)
-typed_there (Err e) h = cc
-
--- an expression that is not refused has a type
-pub kind_there : (t : Tree) (scope : Scope) (place : Context) → is_built_tree t ≡ true → refusals_of t scope place ≡ [] → There (kind_in t scope)
-kind_there (column n) scope place b h = name_there (kind_of_name n scope) (ColumnNotFound n) h
-kind_there (literal v) scope place b h = (literal_kind v, refl)
-kind_there (alias e n) scope place b h = kind_there e scope place b h
-kind_there (agg m e) scope place b h =
-    let input = kind_there e scope place (both (is_sum m) (is_built_tree e) b).1 (inputs_none (refusals_of e scope place) _ h) in
-    let typed = nil_right (on_groups place (grouped_reduction_refusals m e)) _ (own_none (refusals_of e scope place) _ h) in
-    let own : refusal_of (reduced_kind m input.0) ≡ [] = (λ i. refusal_of_one (reduced_kind m) (sym input.1 i)) ∙ typed in
-    let k = typed_there (reduced_kind m input.0) own in
-    (k.0, ap (λ o. option_and_then (λ j. made_kind (reduced_kind m j)) o) input.1 ∙ k.1)
-kind_there len scope place b h = (_, refl)
-kind_there _ scope place b h = cc
+use Rattle.px_expression.specs.KindLaws.{There, kind_there, name_there, none_left as nil_left, none_right as nil_right, none_first as inputs_none, none_own as own_none}
 
 -- the planner's answer is told by the refusals
 pub planned_meets : {X : Type 0} (view : X → Planned) (t : Tree) (scope : Scope) (place : Context) (r : Result X PxError) → is_built_tree t ≡ true
     → AnswersBy view r (plan_in None t scope place) → MeetsBy view r (refusals_of t scope place) (Some (planned_over scope t))
-planned_meets {X} view t scope place r b a = by (refusals_of t scope place) (kind_in t scope) (kind_there t scope place b) r a
+planned_meets {X} view t scope place r b a = by (refusals_of t scope place) (kind_in t scope) (kind_there t scope place) r a
   where
     by : (R : List PxError) (K : Option Kind) → (R ≡ [] → There K) → (r : Result X PxError)
         → AnswersBy view r (first_or_kind R K >>= λ k. Ok (planned_over scope t))

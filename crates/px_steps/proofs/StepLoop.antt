@@ -9,12 +9,12 @@ use Rattle.px_value.specs.declared.error.PxError.{PxError}
 use Rattle.px_value.specs.declared.error.PxError.TheVariants.{OutOfMemory}
 use Rattle.px_expr.specs.Value.{IsOneOf}
 use Rattle.px_frame.specs.External.{Frame, alone}
-use Rattle.px_steps.specs.Built.{is_built}
+use Rattle.px_document.specs.Built.{is_built}
 use Rattle.px_steps.specs.Causes.{AreSound, IsCauseIn, IsSound, StandsIn, StepAnswers, StepsAnswer}
 use Rattle.px_steps.specs.Plain.{AreValid, groupings_in, groupings_of, plain_on, step_on}
-use Rattle.px_steps.specs.Step.{PlainStep, step_view}
-use Rattle.px_steps.specs.declared.step.Step.{Step}
-use Rattle.px_steps.proofs.Columns.{both}
+use Rattle.px_document.specs.Step.{PlainStep, step_view}
+use Rattle.px_document.specs.declared.step.Step.{Step}
+use Rattle.px_value.specs.FitLaws.{both}
 
 -- a sound step before sound ones
 sound_first : (s : PlainStep) (steps : List PlainStep) (frame next : Frame) → IsSound s frame → step_on s frame ≡ Some next → AreSound steps next → AreSound (s ∷ steps) frame

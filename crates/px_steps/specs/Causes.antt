@@ -8,7 +8,7 @@ use Rattle.px_expr.specs.Planned.{Planned}
 use Rattle.px_expr.specs.Value.{IsCause, IsOneOf}
 use Rattle.px_frame.specs.External.{Frame, alone}
 use Rattle.px_steps.specs.Plain.{first_refusal, plain_on, step_faults, step_on, step_size}
-use Rattle.px_steps.specs.Step.{PlainStep}
+use Rattle.px_document.specs.Step.{PlainStep}
 
 -- a step that is not refused and has no fault
 pub record IsSound (s : PlainStep) (frame : Frame) : Type 0 where

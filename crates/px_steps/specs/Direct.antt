@@ -1,7 +1,7 @@
 -- What group steps mean whose keys are columns, and whose aggregations are sums of columns and lengths: told directly, for
 -- such steps alone. `specs/DirectLaws.antt` says that it is what such steps mean among all.
-use Rattle.std.specs.Prelude.{ℕ, pos, Bool, true, false, List, [], ◌∷◌, ◌++◌, Option, Some, None, map, option_map, option_and_then, replicate}
-use Rattle.std.specs.List.{flat_map}
+use Rattle.std.specs.Prelude.{ℕ, pos, Bool, true, false, ◌&&◌, List, [], ◌∷◌, ◌++◌, Option, Some, None, map, option_map, option_and_then, replicate}
+use Rattle.std.specs.List.{flat_map, list_all}
 use Rattle.std.specs.Option.{option_map_or}
 use Rattle.px_value.specs.Datum.{integer, Slot}
 use Rattle.px_value.specs.Kind.{Kind, lists, uint32s}
@@ -13,17 +13,34 @@ use Rattle.px_value.specs.declared.error.InvalidWhy.TheVariants.{ListKey, Types}
 use Rattle.px_value.specs.declared.error.ComputeWhy.TheVariants.{AggScalar}
 use Rattle.px_value.specs.declared.method.GroupByMethod.{GroupByMethod}
 use Rattle.px_value.specs.declared.method.GroupByMethod.TheVariants.{Sum}
+use Rattle.px_expr.specs.Built.{is_sum}
 use Rattle.px_frame.specs.Cell.{Cell, unit, rows, list_of, value_of_cell}
 use Rattle.px_frame.specs.Frame.{look, height_of, subframe, first_repeat}
 use Rattle.px_frame.specs.Parts.{parts_of}
-use Rattle.px_plan.specs.Shape.{is_unit, name_of}
-use Rattle.px_plan.specs.Tree.{Tree, column, agg, len}
-use Rattle.px_plan.specs.declared.context.Context.{Context}
-use Rattle.px_plan.specs.declared.context.Context.TheVariants.{Default, Aggregation}
+use Rattle.px_expression.specs.Shape.{is_unit, name_of}
+use Rattle.px_expression.specs.Tree.{Tree, column, agg, len}
+use Rattle.px_expression.specs.declared.context.Context.{Context}
+use Rattle.px_expression.specs.declared.context.Context.TheVariants.{Default, Aggregation}
 use Rattle.px_value.specs.Option.{each}
-use Rattle.px_steps.specs.Form.{with_front}
+use Rattle.px_document.specs.Form.{with_front}
 use Rattle.px_steps.specs.Plain.{first_of, key_values, no_key_refusal}
-use Rattle.px_steps.specs.Step.{PlainStep, group}
+use Rattle.px_document.specs.Step.{PlainStep, group}
+
+-- a key by its name
+abbrev pub is_direct_key : Tree → Bool
+is_direct_key (column n) = true
+is_direct_key _ = false
+
+-- the sum of a column, or the length
+abbrev pub is_direct_agg : Tree → Bool
+is_direct_agg (agg m e) = is_sum m && is_direct_key e
+is_direct_agg len = true
+is_direct_agg _ = false
+
+-- a group step of such keys and aggregations, without chunks
+abbrev pub is_direct_group : PlainStep → Bool
+is_direct_group (group keys aggs None) = list_all is_direct_key keys && list_all is_direct_agg aggs
+is_direct_group _ = false
 
 -- a unit stands at each of n rows, rows stand as they are
 abbrev pub spread : ℕ → Cell → List Slot

@@ -15,24 +15,17 @@ use Rattle.px_frame.specs.External.{alone, scope_of}
 use Rattle.px_frame.specs.Frame.{IsFrame, look, has_name, has_height, height_of, series_at, subframe, first_repeat}
 use Rattle.px_frame.specs.Parts.{parts_of}
 use Rattle.px_frame.specs.Schema.{FieldKind, column_field, has_field_name}
-use Rattle.px_plan.specs.Shape.{name_of}
-use Rattle.px_plan.specs.Tree.{Tree, column, agg, len}
-use Rattle.px_plan.specs.Typing.{kind_of_name, refused_where, fails, not_list}
-use Rattle.px_steps.specs.Built.{is_direct_group, is_direct_key, is_direct_agg}
+use Rattle.px_expression.specs.Shape.{name_of}
+use Rattle.px_expression.specs.Tree.{Tree, column, agg, len}
+use Rattle.px_expression.specs.Typing.{kind_of_name, refused_where, fails, not_list}
+use Rattle.px_steps.specs.Direct.{is_direct_group, is_direct_key, is_direct_agg}
 use Rattle.px_steps.specs.Direct as direct
 use Rattle.px_steps.specs.Plain as plain
 use Rattle.px_steps.specs.Plain.{first_of, key_values}
-use Rattle.px_steps.specs.Step.{PlainStep, group}
-
--- a name among a frame's fields is that of its column
-pub field-look : (n : List ℕ) (frame : List Series) → find (has_field_name n) (map column_field frame) ≡ option_map column_field (look n frame)
-field-look n [] = refl
-field-look n (s ∷ frame) = by (has_name n s) (field-look n frame)
-  where
-    by : (b : Bool) → find (has_field_name n) (map column_field frame) ≡ option_map column_field (look n frame)
-        → cond b (Some (column_field s)) (find (has_field_name n) (map column_field frame)) ≡ option_map column_field (cond b (Some s) (look n frame))
-    by true rest = refl
-    by false rest = rest
+use Rattle.px_document.specs.Step.{PlainStep, group}
+use Rattle.px_value.specs.FitLaws.{both as all_and}
+use Rattle.px_frame.specs.LookLaws.{field_look as field-look, look_rows as look-at}
+use Rattle.std.proofs.lemmas.List.{append-nil as append_nil, map-append}
 
 kind_of_field : (o : Option Series) → option_map (λ (f : FieldKind). f.kind) (option_map column_field o) ≡ option_map (λ (s : Series). s.kind) o
 kind_of_field None = refl
@@ -41,10 +34,6 @@ kind_of_field (Some s) = refl
 -- the type of a name over a frame that stands alone
 pub kind_alone : (n : List ℕ) (frame : List Series) → kind_of_name n (scope_of (alone frame)) ≡ option_map (λ (s : Series). s.kind) (look n frame)
 kind_alone n frame = ap (option_map (λ (f : FieldKind). f.kind)) (field-look n frame) ∙ kind_of_field (look n frame)
-
-pub all_and : (a b : Bool) → (a && b) ≡ true → (a ≡ true) × (b ≡ true)
-all_and true b h = (refl, h)
-all_and false b h = cc
 
 pub found_high : (test find_by : Series → Bool) (frame : List Series) (s : Series) → list_all test frame ≡ true → find find_by frame ≡ Some s → test s ≡ true
 found_high test find_by [] s h e = cc
@@ -105,15 +94,6 @@ sum_refused n frame = by (look n frame) refl
     by None e = rw (kind_missing n frame e, e) refl
     by (Some s) e = typed s e (sum_kind s.kind) refl
 
-look-at : (n : List ℕ) (frame : List Series) (p : List ℕ) → look n (subframe frame p) ≡ option_map (series_at p) (look n frame)
-look-at n [] p = refl
-look-at n (s ∷ frame) p = by (has_name n s) (look-at n frame p)
-  where
-    by : (b : Bool) → find (has_name n) (map (series_at p) frame) ≡ option_map (series_at p) (find (has_name n) frame)
-        → cond b (Some (series_at p s)) (find (has_name n) (map (series_at p) frame)) ≡ option_map (series_at p) (cond b (Some s) (find (has_name n) frame))
-    by true rest = refl
-    by false rest = rest
-
 each_some : {A B : Type 0} (f : A → Option B) (g : A → B) (xs : List A) → ((x : A) → f x ≡ Some (g x)) → each f xs ≡ Some (map g xs)
 each_some f g [] h = refl
 each_some f g (x ∷ xs) h = rw (h x, each_some f g xs h) refl
@@ -172,14 +152,6 @@ first_or (e ∷ es) b = refl
 first_after : (a b c : List PxError) → first_of b ≡ first_of c → first_of (a ++ b) ≡ first_of (a ++ c)
 first_after [] b c h = h
 first_after (e ∷ es) b c h = refl
-
-append_nil : {A : Type 0} (xs : List A) → xs ++ [] ≡ xs
-append_nil [] = refl
-append_nil (x ∷ xs) = ap (λ ys. x ∷ ys) (append_nil xs)
-
-map-append : {A B : Type 0} (f : A → B) (xs ys : List A) → map f (xs ++ ys) ≡ map f xs ++ map f ys
-map-append f [] ys = refl
-map-append f (x ∷ xs) ys = ap (λ zs. f x ∷ zs) (map-append f xs ys)
 
 repeat_same : (o : Option (List ℕ)) → option_map_or (λ n. Duplicate n ∷ []) o [] ≡ direct.repeat_refusal o
 repeat_same None = refl

@@ -1,5 +1,5 @@
 -- What is found of expressions that are not refused: what they mean, or a fault, or too many values.
-use Rattle.std.specs.Prelude.{◌≡◌, ◌⊎◌, ℕ, ◌^◌, ◌≤◌, true, List, [], ◌∷◌, ◌++◌, Option, Some, Result, Ok, Err, map, if◌then◌else◌}
+use Rattle.std.specs.Prelude.{◌≡◌, ◌⊎◌, ℕ, ◌^◌, ◌≤◌, Bool, true, ◌&&◌, not, List, [], ◌∷◌, ◌++◌, Option, Some, Result, Ok, Err, map, if◌then◌else◌}
 use Rattle.std.specs.List.{flat_map}
 use Rattle.std.specs.Option.{option_map_or}
 use Rattle.px_value.specs.Datum.{Slot}
@@ -14,15 +14,16 @@ use Rattle.px_expr.specs.Plan.{planned_over}
 use Rattle.px_expr.specs.Planned.{Planned}
 use Rattle.px_expr.specs.Value.{IsOneOf}
 use Rattle.px_frame.specs.External.{Frame, rows_of_frame}
-use Rattle.px_frame.specs.Frame.{first_repeat}
+use Rattle.px_frame.specs.Frame.{first_repeat, has_height, height_of}
+use Rattle.px_frame.specs.Groups.{is_list}
 use Rattle.px_frame.specs.Schema.{column_field}
 use Rattle.px_frame.specs.Spread.{NamedCell}
-use Rattle.px_plan.specs.Node.{is_unit_cell}
-use Rattle.px_plan.specs.Shape.{name_of}
-use Rattle.px_plan.specs.Tree.{Tree}
-use Rattle.px_plan.specs.Typing.{Scope, fails, kind_in, not_list, refusals_of, refused_where}
-use Rattle.px_plan.specs.Value.{faults_on, value_on}
-use Rattle.px_plan.specs.declared.context.Context.TheVariants.{Default}
+use Rattle.px_expression.specs.Node.{is_unit_cell}
+use Rattle.px_expression.specs.Shape.{name_of}
+use Rattle.px_expression.specs.Tree.{Tree}
+use Rattle.px_expression.specs.Typing.{Scope, fails, kind_in, not_list, refusals_of, refused_where}
+use Rattle.px_expression.specs.Value.{faults_on, value_on}
+use Rattle.px_expression.specs.declared.context.Context.TheVariants.{Default}
 use Rattle.px_steps.specs.Plain.{grouped_kind, height_fault}
 
 -- memory was wanting, or one of some faults stands, or so many values are too many
@@ -56,6 +57,10 @@ typed_key_refusals scope e = refusals_of e scope Default ++ refused_where (fails
 -- the faults of a key's value, also where it has not the frame's height
 abbrev pub key_faults : Frame → Tree → List PxError
 key_faults frame e = faults_on e frame ++ height_fault frame (value_on e frame)
+
+-- a column can be a key of a frame: it is no list, and has the frame's height
+abbrev pub is_key : List Series → Series → Bool
+is_key frame s = not (is_list s) && has_height (height_of frame) s
 
 -- the frames of some parts of a frame
 abbrev pub part_frames : Frame → List (List ℕ) → List Frame

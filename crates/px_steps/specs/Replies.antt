@@ -1,9 +1,10 @@
 -- What a reply tells of its input.
 use Rattle.std.specs.Prelude.{◌≡◌, ℕ, ◌+◌, List}
-use Rattle.px_steps.specs.Label.{bad_document_line}
-use Rattle.px_steps.specs.Document.{Doc}
+use Rattle.px_document.specs.Label.{bad_document_line}
+use Rattle.px_document.specs.Document.{Doc}
 use Rattle.px_steps.specs.Plain.{groupings_of}
-use Rattle.px_steps.specs.Reply.{IsDocument, IsResult, IsRefusal, IsNoDocument}
+use Rattle.px_document.specs.DocumentText.{IsDocument}
+use Rattle.px_steps.specs.Reply.{IsResult, IsRefusal, IsNoDocument}
 use Rattle.px_steps.specs.declared.reply.Reply.{Reply}
 use Rattle.px_steps.specs.declared.reply.Reply.TheVariants.{Frame, Refusal, BadDocument}
 

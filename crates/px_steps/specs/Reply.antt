@@ -3,19 +3,14 @@ use Rattle.std.specs.Prelude.{◌≡◌, ◌≢◌, ℕ, List, Some}
 use Rattle.px_value.specs.Series.{Series}
 use Rattle.px_value.specs.declared.error.PxError.{PxError}
 use Rattle.px_value.specs.declared.error.PxError.TheVariants.{OutOfMemory}
-use Rattle.px_frame.specs.Frame.{IsFrame, height_of}
-use Rattle.px_steps.specs.Document.{Doc}
-use Rattle.px_steps.specs.DocumentText.{IsDocumentText}
-use Rattle.px_steps.specs.Label.{line_of, bad_document_line}
+use Rattle.px_frame.specs.Frame.{height_of}
+use Rattle.px_document.specs.Document.{Doc}
+use Rattle.px_document.specs.DocumentText.{IsDocument}
+use Rattle.px_document.specs.Label.{line_of, bad_document_line}
 use Rattle.px_frame.specs.External.{alone}
 use Rattle.px_steps.specs.Causes.{AreSound, IsCauseIn}
 use Rattle.px_steps.specs.Plain.{plain_on}
-use Rattle.px_steps.specs.Text.{text_of}
-
--- the bytes say this document, and its columns are a frame: distinct names, one length
-pub record IsDocument (bytes : List ℕ) (doc : Doc) : Type 0 where
-  pub says : IsDocumentText bytes doc
-  pub frame : IsFrame doc.columns
+use Rattle.px_document.specs.Text.{text_of}
 
 -- no step is refused or has a fault, and the text is that of the frame which the steps make
 pub record IsResult (bytes text : List ℕ) : Type 0 where

@@ -1,6 +1,6 @@
 -- How a run ends, and what it read and wrote.
 use Rattle.std.specs.Prelude.{◌≡◌, ℕ, ◌-◌, ◌^◌, ◌<◌, ◌⊎◌, List, [], ◌∷◌, Option, Some, codes}
-use Rattle.px_steps.specs.Ends.{IsTooLong, TakesAll, TakesPart}
+use Rattle.px_ends.specs.Ends.{IsTooLong, TakesAll, TakesPart}
 use Rattle.px_steps.specs.Reply.{IsResult, IsRefusal, IsNoDocument}
 use Rattle.px_steps.specs.declared.status.Status.{Status}
 use Rattle.px_steps.specs.declared.status.Status.TheVariants.{Done, Refused, Usage, BadDocument, ReadFault, WriteFault, OutOfMemory}

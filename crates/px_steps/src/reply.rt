@@ -2,16 +2,14 @@
 ghost use Rattle.std.specs.Prelude.{◌≡◌, ℕ, List, IfOk, OnOk};
 ghost use Rattle.px_value.specs.declared.error.PxError.TheVariants.{OutOfMemory};
 ghost use Rattle.px_frame.specs.Frame.{height_of};
-ghost use Rattle.px_steps.specs.Label.{line_of};
+ghost use Rattle.px_document.specs.Label.{line_of};
 ghost use Rattle.px_steps.specs.Replies.{Grouped, Replies};
-ghost use Rattle.px_steps.specs.Text.{text_of};
+ghost use Rattle.px_document.specs.Text.{text_of};
 ghost use Rattle.px_steps.specs.declared.reply.Reply.TheVariants.{Frame, Refusal};
 
-use crate::document::{DocumentFault, read_document};
-use crate::label::error_line;
 use crate::runner::run_steps;
-use crate::text::frame_text;
 use px_column::{ByteString, PxError, Steps};
+use px_document::{DocumentFault, error_line, frame_text, read_document};
 use px_frame::DataFrame;
 use px_window::ExecutionState;
 use std::alloc::{AllocError, Global};

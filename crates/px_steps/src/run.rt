@@ -1,22 +1,20 @@
 //! The command `run`: a document is read, its steps are run, and the reply is written.
 ghost use Rattle.std.specs.Prelude.{◌≡◌, ◌≢◌, ◌↔◌, ◌⊎◌, ◌+◌, ◌≤◌, ℕ, List, [], Some, None, IfSome, IsTrue, map, string_bytes};
-ghost use Rattle.px_steps.specs.Document.{Doc};
-ghost use Rattle.px_steps.specs.Ends.{Rose, TakesAll, TakesPart};
-ghost use Rattle.px_steps.specs.Label.{bad_document_line};
+ghost use Rattle.px_document.specs.Document.{Doc};
+ghost use Rattle.px_ends.specs.Ends.{Rose, TakesAll, TakesPart};
+ghost use Rattle.px_document.specs.Label.{bad_document_line};
 ghost use Rattle.px_frame.specs.External.{alone};
 ghost use Rattle.px_steps.specs.Plain.{AreValid, groupings_of};
-ghost use Rattle.px_steps.specs.Reply.{IsDocument};
+ghost use Rattle.px_document.specs.DocumentText.{IsDocument};
 ghost use Rattle.px_steps.specs.Run.{Calm, Ends, IsCommand, Silent};
 
 #[cfg(test)]
 mod tests;
 
 use crate::reply::{Reply, reply_to};
-use crate::sink::Sink;
-use crate::source::Source;
 use crate::status::Status;
-use crate::transfer::{ReadEnd, read_all, write_all};
 use px_column::Steps;
+use px_ends::{ReadEnd, Sink, Source, read_all, write_all};
 use std::alloc::Global;
 use std::sync::ledger::Ledger;
 

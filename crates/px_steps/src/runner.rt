@@ -3,18 +3,18 @@ ghost use Rattle.std.specs.Prelude.{◌≡◌, ◌+◌, Some, IfOk, IfErr, OnOk,
 ghost use Rattle.std.specs.List.{list_all};
 ghost use Rattle.px_value.specs.declared.error.PxError.TheVariants.{OutOfMemory};
 ghost use Rattle.px_frame.specs.External.{alone};
-ghost use Rattle.px_steps.specs.Built.{is_built};
+ghost use Rattle.px_document.specs.Built.{is_built};
 ghost use Rattle.px_steps.specs.Causes.{AreSound, IsCauseIn, StepAnswers, StepsAnswer};
 ghost use Rattle.px_steps.specs.Plain.{AreValid, groupings_in, groupings_of, plain_on};
-ghost use Rattle.px_steps.specs.Step.{step_view};
+ghost use Rattle.px_document.specs.Step.{step_view};
 
 #[cfg(test)]
 mod tests;
 
 use crate::group_step::group_step;
 use crate::select_step::select_step;
-use crate::step::Step;
 use px_column::{Px, Steps};
+use px_document::Step;
 use px_frame::DataFrame;
 use px_window::ExecutionState;
 use std::alloc::Global;

@@ -11,11 +11,12 @@ use Rattle.px_frame.specs.Frame.{all_have_height, has_height, height_of, is_even
 use Rattle.px_frame.specs.Groups.{first_row}
 use Rattle.px_value.specs.FitLaws.{both}
 use Rattle.px_steps.specs.Direct.{kind_on, value_on, aggregated_on, grouped_kind, key_on, spread, value_on_part}
-use Rattle.px_plan.specs.Shape.{name_of, is_unit}
-use Rattle.px_plan.specs.Tree.{Tree}
+use Rattle.px_expression.specs.Shape.{name_of, is_unit}
+use Rattle.px_expression.specs.Tree.{Tree}
 use Rattle.px_value.specs.Option.{each}
 use Rattle.px_steps.specs.Plain.{key_values}
 use Rattle.px_vectors.proofs.EachMade.{each_maps, each_passes}
+use Rattle.px_frame.specs.LookLaws.{has_length, even_from as as_tall}
 
 key_name : (n : List ℕ) (h : ℕ) (k : Option Kind) (v : Option Cell) (s : Series) → option_and_then (λ j. option_map (λ c. record { name = n; kind = j; slots = spread h c }) v) k ≡ Some s → s.name ≡ n
 key_name n h None v s e = cc
@@ -25,19 +26,8 @@ key_name n h (Some k) (Some c) s e = let same : s ≡ record { name = n; kind = 
 pub key_names : (frame : List Series) (keys : List Tree) (by : List Series) → each (key_on frame) keys ≡ Some by → names_of by ≡ map name_of keys
 key_names frame keys by = each_maps (key_on frame) (λ s. s.name) name_of (λ e s. key_name (name_of e) (height_of frame) (kind_on e frame) (value_on e frame) s) keys by
 
-has_length : (n : ℕ) (s : Series) → length s.slots ≡ n → has_height n s ≡ true
-has_length n s h = grind (arith, nat_tests)
-
 all_append : (n : ℕ) (xs ys : List Series) → all_have_height n xs ≡ true → all_have_height n ys ≡ true → all_have_height n (xs ++ ys) ≡ true
 all_append n xs ys h k = list_all-append (has_height n) xs ys ∙ (λ i. h i && k i)
-
--- columns of one height
-as_tall : (n : ℕ) (columns : List Series) → all_have_height n columns ≡ true → is_even columns ≡ true
-as_tall n [] h = refl
-as_tall n (s ∷ columns) h =
-    let first : has_height n s ≡ true = (both (has_height n s) (all_have_height n columns) h).0 in
-    let same : length s.slots ≡ n = grind (arith, nat_tests) in
-    ap (λ m. all_have_height m (s ∷ columns)) same ∙ h
 
 module _ (frame : List Series) (ps : List (List ℕ)) where
   record IsAggregated (n : List ℕ) (s : Series) : Type 0 where

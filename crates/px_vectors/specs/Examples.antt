@@ -12,12 +12,12 @@ use Rattle.px_value.specs.declared.method.GroupByMethod.TheVariants as method
 use Rattle.px_value.specs.declared.operator.Operator.TheVariants.{Multiply, Gt}
 use Rattle.px_value.specs.declared.sort_options.SortOptions.{SortOptions}
 use Rattle.px_frame.specs.External.{Frame, alone}
-use Rattle.px_plan.specs.Tree.{Tree, single, no_trees, one_tree, no_order, column, literal, alias, binary, cast, function, agg, len, window}
-use Rattle.px_plan.specs.declared.function.FunctionExpr.TheVariants.{Explode, IsNotNull, Reverse}
-use Rattle.px_plan.specs.declared.window.WindowMapping.{WindowMapping}
-use Rattle.px_plan.specs.declared.window.WindowMapping.TheVariants.{GroupsToRows}
-use Rattle.px_steps.specs.Step as step
-use Rattle.px_steps.specs.Step.{PlainStep, select, group}
+use Rattle.px_expression.specs.Tree.{Tree, single, no_trees, one_tree, no_order, column, literal, alias, binary, cast, function, agg, len, window}
+use Rattle.px_expression.specs.declared.function.FunctionExpr.TheVariants.{Explode, IsNotNull, Reverse}
+use Rattle.px_expression.specs.declared.window.WindowMapping.{WindowMapping}
+use Rattle.px_expression.specs.declared.window.WindowMapping.TheVariants.{GroupsToRows}
+use Rattle.px_document.specs.Step as step
+use Rattle.px_document.specs.Step.{PlainStep, select, group}
 use Rattle.px_vectors.specs.Worked.{num, four_rows}
 
 -- some numbers, as places

@@ -10,12 +10,12 @@ ghost use Rattle.px_value.specs.declared.error.PxError.TheVariants.{ColumnNotFou
 ghost use Rattle.px_value.specs.declared.method.GroupByMethod.TheVariants as method;
 ghost use Rattle.px_value.specs.declared.operator.Operator.TheVariants.{Plus, NotEq, Minus};
 ghost use Rattle.px_frame.specs.External.{alone};
-ghost use Rattle.px_plan.specs.Tree.{single, range, series, no_trees, one_tree, no_order, ordered, column, literal, binary, cast, function, filter, slice, gather, sort, sort_by, agg, len, window};
-ghost use Rattle.px_plan.specs.declared.function.FunctionExpr.TheVariants.{IsIn};
-ghost use Rattle.px_plan.specs.declared.window.WindowMapping.TheVariants.{GroupsToRows, Join, Explode};
+ghost use Rattle.px_expression.specs.Tree.{single, range, series, no_trees, one_tree, no_order, ordered, column, literal, binary, cast, function, filter, slice, gather, sort, sort_by, agg, len, window};
+ghost use Rattle.px_expression.specs.declared.function.FunctionExpr.TheVariants.{IsIn};
+ghost use Rattle.px_expression.specs.declared.window.WindowMapping.TheVariants.{GroupsToRows, Join, Explode};
 ghost use Rattle.px_steps.specs.Plain.{columns_made, first_refusal, plain_on, step_faults};
-ghost use Rattle.px_steps.specs.Step as step;
-ghost use Rattle.px_steps.specs.Step.{select, group};
+ghost use Rattle.px_document.specs.Step as step;
+ghost use Rattle.px_document.specs.Step.{select, group};
 ghost use Rattle.px_vectors.specs.Examples.{nums, word, numbers, truth, column_of, four, k, x, y, int, no_value, null_int, greater, sum_of, max_of, first_of, explode, reversed, rising, falling, over_k, by_key, invalid, failed, sales, sales_report};
 ghost use Rattle.px_vectors.specs.Worked.{num};
 

@@ -8,18 +8,18 @@ ghost use Rattle.px_value.specs.declared.cast_options.CastOptions.TheVariants.{N
 ghost use Rattle.px_value.specs.declared.closed_interval.ClosedInterval.TheVariants.{Left};
 ghost use Rattle.px_value.specs.declared.method.GroupByMethod.TheVariants.{Count, Max};
 ghost use Rattle.px_value.specs.declared.operator.Operator.TheVariants.{FloorDivide};
-ghost use Rattle.px_plan.specs.Tree.{single, range, series, no_trees, one_tree, no_order, ordered, column, literal, alias, binary, ternary, cast, function, filter, slice, gather, sort, sort_by, agg, len, window};
-ghost use Rattle.px_plan.specs.declared.function.FunctionExpr.TheVariants.{Explode, IsBetween, IsIn, IsNull, Shift};
-ghost use Rattle.px_plan.specs.declared.window.WindowMapping.TheVariants.{Join};
-ghost use Rattle.px_steps.specs.ExprForm.{expr_of};
-ghost use Rattle.px_steps.specs.Step as step;
-ghost use Rattle.px_steps.specs.Step.{select, group};
-ghost use Rattle.px_steps.specs.StepForm.{any_step_of};
+ghost use Rattle.px_expression.specs.Tree.{single, range, series, no_trees, one_tree, no_order, ordered, column, literal, alias, binary, ternary, cast, function, filter, slice, gather, sort, sort_by, agg, len, window};
+ghost use Rattle.px_expression.specs.declared.function.FunctionExpr.TheVariants.{Explode, IsBetween, IsIn, IsNull, Shift};
+ghost use Rattle.px_expression.specs.declared.window.WindowMapping.TheVariants.{Join};
+ghost use Rattle.px_document.specs.ExprForm.{expr_of};
+ghost use Rattle.px_document.specs.Step as step;
+ghost use Rattle.px_document.specs.Step.{select, group};
+ghost use Rattle.px_document.specs.StepForm.{any_step_of};
 ghost use Rattle.px_vectors.specs.Examples.{column_of, falling, int, k, sum_of, word, x};
 ghost use Rattle.px_vectors.specs.Worked.{num};
 
 /// Literals, and expressions of one row at a time.
-#[tactic(auto, unfolding(px_steps::proofs::OnLiterals::px_steps_on_literals))]
+#[tactic(auto, unfolding(px_document::specs::OnLiterals::px_document_on_literals))]
 pub fn row_forms()
     ensures col { option_and_then expr_of (read (codes "{\"col\":\"x\"}")) ≡ Some x }
     ensures lit { option_and_then expr_of (read (codes "{\"lit\":{\"type\":\"Int64\",\"value\":5}}")) ≡ Some (int 5) }
@@ -41,7 +41,7 @@ pub fn row_forms()
 {}
 
 /// Expressions that choose, move or reduce rows, and windows.
-#[tactic(auto, unfolding(px_steps::proofs::OnLiterals::px_steps_on_literals))]
+#[tactic(auto, unfolding(px_document::specs::OnLiterals::px_document_on_literals))]
 pub fn choice_forms()
     ensures explode { option_and_then expr_of (read (codes "{\"explode\":{\"col\":\"x\"}}")) ≡ Some (function (one_tree x no_trees) Explode) }
     ensures filter { option_and_then expr_of (read (codes "{\"filter\":[{\"col\":\"x\"},{\"col\":\"b\"}]}")) ≡ Some (filter x (column (codes "b"))) }
@@ -58,7 +58,7 @@ pub fn choice_forms()
 {}
 
 /// Steps, and texts that say none.
-#[tactic(auto, unfolding(px_steps::proofs::OnLiterals::px_steps_on_literals))]
+#[tactic(auto, unfolding(px_document::specs::OnLiterals::px_document_on_literals))]
 pub fn step_forms()
     ensures select { option_and_then any_step_of (read (codes "{\"select\":[{\"col\":\"x\"},{\"len\":null}]}")) ≡ Some (select (x ∷ len ∷ [])) }
     ensures filter { option_and_then any_step_of (read (codes "{\"filter\":{\"col\":\"b\"}}")) ≡ Some (step.filter (column (codes "b"))) }

@@ -11,9 +11,9 @@ ghost use Rattle.px_value.specs.declared.method.GroupByMethod.TheVariants as met
 ghost use Rattle.px_value.specs.declared.operator.Operator.TheVariants.{Plus};
 ghost use Rattle.px_frame.specs.Cell.{unit, rows};
 ghost use Rattle.px_frame.specs.External.{alone};
-ghost use Rattle.px_plan.specs.Tree.{single, range, series, no_trees, one_tree, column, literal, alias, binary, ternary, cast, function, filter, slice, gather, sort, sort_by, agg, len};
-ghost use Rattle.px_plan.specs.Value.{faults_on, value_on};
-ghost use Rattle.px_plan.specs.declared.function.FunctionExpr.TheVariants.{DropNulls, IsBetween, IsIn, IsNotNull, IsNull, Not, NullCount, Shift};
+ghost use Rattle.px_expression.specs.Tree.{single, range, series, no_trees, one_tree, column, literal, alias, binary, ternary, cast, function, filter, slice, gather, sort, sort_by, agg, len};
+ghost use Rattle.px_expression.specs.Value.{faults_on, value_on};
+ghost use Rattle.px_expression.specs.declared.function.FunctionExpr.TheVariants.{DropNulls, IsBetween, IsIn, IsNotNull, IsNull, Not, NullCount, Shift};
 ghost use Rattle.px_vectors.specs.Examples.{column_of, explode, falling, four, greater, int, negative, no_value, null_int, numbers, nums, reversed, some_nulls, sum_of, truth, truths, word, x};
 ghost use Rattle.px_vectors.specs.Worked.{num};
 

@@ -8,13 +8,13 @@ ghost use Rattle.px_value.specs.declared.error.PxError.TheVariants.{ColumnNotFou
 ghost use Rattle.px_value.specs.declared.error.ComputeWhy.TheVariants.{NoKey};
 ghost use Rattle.px_frame.specs.External.{alone};
 ghost use Rattle.px_frame.specs.Parts.{parts_of};
-ghost use Rattle.px_plan.specs.Tree.{column, len};
-ghost use Rattle.px_steps.specs.Label.{line_of, bad_document_line};
+ghost use Rattle.px_expression.specs.Tree.{column, len};
+ghost use Rattle.px_document.specs.Label.{line_of, bad_document_line};
 ghost use Rattle.px_steps.specs.Plain.{columns_made, first_refusal};
 ghost use Rattle.px_steps.specs.Reply.{IsNoDocument, IsRefusal, IsResult};
-ghost use Rattle.px_steps.specs.Step.{group};
-ghost use Rattle.px_steps.specs.StepForm.{any_document_of};
-ghost use Rattle.px_steps.specs.Text.{kind_name, quoted, slot_text, text_of};
+ghost use Rattle.px_document.specs.Step.{group};
+ghost use Rattle.px_document.specs.StepForm.{any_document_of};
+ghost use Rattle.px_document.specs.Text.{kind_name, quoted, slot_text, text_of};
 ghost use Rattle.px_vectors.specs.Worked.{num, int64_column, uint32_column, keyed, four_rows, null_keys, four_grouped, sum_column, sum_and_len, by_k};
 ghost use Rattle.px_vectors.specs.WorkedDocument.{group_data, document_data, four_rows_doc, document_text};
 
@@ -85,7 +85,7 @@ pub fn worked_lines()
 {}
 
 /// What documents say, and what is written for texts.
-#[tactic(auto, unfolding(px_steps::proofs::OnLiterals::px_steps_on_literals))]
+#[tactic(auto, unfolding(px_document::specs::OnLiterals::px_document_on_literals))]
 pub fn worked_documents()
     ensures four_rows { any_document_of (document_data (λ ms. ms) (group_data no_members)) ≡ Some (four_rows_doc (codes "x")) }
     // One member more than there are to be.

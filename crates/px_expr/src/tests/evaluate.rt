@@ -1,7 +1,7 @@
 ghost use Rattle.std.specs.Prelude.{◌≡◌, ◌<◌, IfOk};
 ghost use Rattle.px_expr.specs.NodeView.{plan_of};
-ghost use Rattle.px_plan.specs.Tree.{column, literal};
-ghost use Rattle.px_plan.specs.View.{literal_of};
+ghost use Rattle.px_expression.specs.Tree.{column, literal};
+ghost use Rattle.px_expression.specs.View.{literal_of};
 
 use crate::*;
 use indexmap::IndexSet;

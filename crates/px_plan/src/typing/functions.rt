@@ -7,13 +7,12 @@ ghost use Rattle.px_value.specs.KindView.{kind_of};
 ghost use Rattle.px_plan.specs.Facts.{kinds_of, takes_rows, is_null_count, is_unit_of_one, one_input_facts, compared_all, compared_facts, only, function_facts};
 ghost use Rattle.px_plan.specs.FactsView.{facts_of, all_facts_of};
 
-use crate::context::Context;
-use crate::function::FunctionExpr;
 use crate::typing::typed::{
     Typed, all_literals, all_units, any_implode, have_list, is_first_unit, is_scalar,
 };
 use crate::typing::types::type_of_one;
 use px_column::{DataType, InvalidWhy, Px, PxError, same_type, type_where};
+use px_expression::{Context, FunctionExpr};
 
 /// Whether a function changes how many rows there are, or their order.
 fn takes_rows(function: FunctionExpr) -> bool

@@ -4,19 +4,17 @@ ghost use Rattle.px_value.specs.Answer.{AnswersBy};
 ghost use Rattle.px_value.specs.KindView.{kind_of};
 ghost use Rattle.px_plan.specs.Facts.{column_facts, is_typed_literal, literal_facts, binary_facts, ternary_facts, cast_facts, filter_facts, slice_facts, gather_facts, sort_facts, sort_by_facts, agg_facts, window_facts, len_facts, is_list_order, is_literal_key, is_implode_key};
 ghost use Rattle.px_plan.specs.FactsView.{facts_of, all_facts_of};
-ghost use Rattle.px_plan.specs.Typing.{kind_of_name, literal_kind};
-ghost use Rattle.px_plan.specs.Shape.{is_single};
-ghost use Rattle.px_plan.specs.View.{literal_of, mapping_of};
+ghost use Rattle.px_expression.specs.Typing.{kind_of_name, literal_kind};
+ghost use Rattle.px_expression.specs.Shape.{is_single};
+ghost use Rattle.px_expression.specs.View.{literal_of, mapping_of};
 
-use crate::context::Context;
-use crate::literal::LiteralValue;
 use crate::typing::typed::{Typed, all_literals, any_implode, have_list, is_scalar};
 use crate::typing::types::{is_integer_or_null, is_range_type, window_type};
-use crate::window::WindowType;
 use px_column::{
-    ComputeWhy, DataType, GroupByMethod, InvalidWhy, Name, Operator, Px, PxError, cast_type, is_boolean,
-    is_integer, operator_type, reduced_type, same_type,
+    ComputeWhy, DataType, GroupByMethod, InvalidWhy, Name, Operator, Px, PxError, cast_type,
+    is_boolean, is_integer, operator_type, reduced_type, same_type,
 };
+use px_expression::{Context, LiteralValue, WindowType};
 use px_frame::Schema;
 use std::alloc::Global;
 

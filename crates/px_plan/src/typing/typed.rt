@@ -1,10 +1,10 @@
 //! What typing finds of an expression.
 ghost use Rattle.std.specs.Prelude.{◌≡◌, ◌&&◌};
-ghost use Rattle.px_plan.specs.Facts.{have_list, all_units, all_literals, any_implode, is_on_groups, is_scalar, is_first_unit};
+ghost use Rattle.px_plan.specs.Facts.{have_list, all_units, all_literals, any_implode, is_scalar, is_first_unit};
 ghost use Rattle.px_plan.specs.FactsView.{facts_of, all_facts_of};
 
-use crate::context::Context;
 use px_column::DataType;
+use px_expression::Context;
 
 /// The type of an expression, and the truths of its shape that refusals above it ask for.
 #[derive(Drop)]
@@ -16,15 +16,6 @@ pub(crate) struct Typed {
     pub is_literal: bool,
     /// Whether an Implode stands in it.
     pub has_implode: bool,
-}
-
-impl Context {
-    /// Whether it is that of groups.
-    pub(crate) fn is_on_groups(self) -> bool
-        ensures { result ≡ is_on_groups self }
-    {
-        matches!(self, Context::Aggregation)
-    }
 }
 
 /// Whether it is one value in each group that is not made of literals: no rows to choose from.

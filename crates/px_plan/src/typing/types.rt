@@ -2,11 +2,10 @@
 ghost use Rattle.std.specs.Prelude.{◌≡◌, [], ◌∷◌, Ok};
 ghost use Rattle.px_value.specs.Answer.{AnswersBy};
 ghost use Rattle.px_value.specs.KindView.{kind_of};
-ghost use Rattle.px_plan.specs.Typing.{is_range_kind, is_integer_or_null, element_kind, function_kind, window_kind};
+ghost use Rattle.px_expression.specs.Typing.{is_range_kind, is_integer_or_null, element_kind, function_kind, window_kind};
 
-use crate::function::FunctionExpr;
-use crate::window::WindowMapping;
 use px_column::{DataType, InvalidWhy, Px, PxError, is_boolean, is_integer, type_where};
+use px_expression::{FunctionExpr, WindowMapping};
 use std::alloc::Global;
 
 pub(crate) fn is_integer_or_null(dtype: &DataType) -> bool

@@ -1,11 +1,11 @@
 ghost use Rattle.std.specs.Prelude.{◌≡◌, ◌<◌, map};
 ghost use Rattle.std.specs.List.{list_all};
 ghost use Rattle.px_expr.specs.Built.{is_built_tree};
-ghost use Rattle.px_plan.specs.View.{tree};
+ghost use Rattle.px_expression.specs.View.{tree};
 
 use super::*;
-use crate::text::frame_text;
 use px_column::{ByteString, DataType, Name, Value};
+use px_document::frame_text;
 use px_expr::is_built;
 use px_plan::{AggExpr, LiteralValue};
 use std::marker::Brand;

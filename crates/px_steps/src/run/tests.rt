@@ -1,8 +1,7 @@
 ghost use Rattle.std.specs.Prelude.{◌≡◌, ◌<◌};
 
 use super::*;
-use crate::memory::{MemorySink, MemorySource};
-use crate::transfer::LIMIT;
+use px_ends::{LIMIT, MemorySink, MemorySource};
 use std::marker::Brand;
 use std::sync::ledger::Blank;
 use std::test::Fail;

@@ -1,11 +1,11 @@
 ghost use Rattle.std.specs.Prelude.{◌≡◌, ◌<◌, map, true};
 ghost use Rattle.std.specs.List.{list_all};
-ghost use Rattle.px_steps.specs.Built.{is_built};
-ghost use Rattle.px_steps.specs.Step.{step_view};
+ghost use Rattle.px_document.specs.Built.{is_built};
+ghost use Rattle.px_document.specs.Step.{step_view};
 
 use super::*;
-use crate::text::frame_text;
 use px_column::{Column, DataType, Name, Value};
+use px_document::frame_text;
 use std::marker::Brand;
 use std::sync::ledger::Blank;
 use std::test::Fail;

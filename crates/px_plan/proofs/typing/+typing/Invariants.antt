@@ -1,8 +1,8 @@
 use Rattle.std.proofs.Common.{◌≡◌, drop, map}
 use Rattle.px_plan.specs.Facts.{all_facts_in, followed_by}
 use Rattle.px_plan.specs.FactsView.{all_facts_of}
-use Rattle.px_plan.specs.Tree.{trees_of}
-use Rattle.px_plan.specs.View.{tree}
+use Rattle.px_expression.specs.Tree.{trees_of}
+use Rattle.px_expression.specs.View.{tree}
 use Rattle.px_plan.proofs.typing.+typing.Given as goal
 
 abbrev pub invariant-typed_all-loop-expr : goal.invariant-typed_all-loop-expr

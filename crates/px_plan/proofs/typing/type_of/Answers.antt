@@ -1,5 +1,5 @@
 use Rattle.std.proofs.Common.{rules}
-use Rattle.px_plan.specs.View.{tree}
+use Rattle.px_expression.specs.View.{tree}
 use Rattle.px_plan.proofs.Found.{type_of_found}
 use Rattle.px_plan.proofs.typing.type_of.Goals as goal
 

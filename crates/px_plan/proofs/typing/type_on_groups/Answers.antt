@@ -1,4 +1,4 @@
-use Rattle.px_plan.specs.View.{tree}
+use Rattle.px_expression.specs.View.{tree}
 use Rattle.px_plan.proofs.Placing.{refused_more, type_kept}
 use Rattle.px_plan.proofs.typing.type_on_groups.Goals as goal
 

@@ -1,8 +1,8 @@
 use Rattle.std.proofs.Common.{None, map}
 use Rattle.std.proofs.lemmas.Result.{err_from_is_err_and}
 use Rattle.px_frame.specs.External.{alone}
-use Rattle.px_plan.specs.View.{tree}
-use Rattle.px_steps.specs.Step.{group}
+use Rattle.px_expression.specs.View.{tree}
+use Rattle.px_document.specs.Step.{group}
 use Rattle.px_steps.proofs.GroupStep.{group_answer, key_cause, keys_fit, names_once, refusals_apart, some_column}
 use Rattle.px_steps.proofs.Selected.{refusal_cause}
 use Rattle.px_steps.proofs.group_step.group_step.Goals as goal

@@ -8,8 +8,8 @@ use Rattle.px_frame.specs.Aggregate.{key_column}
 use Rattle.px_frame.specs.External.{alone}
 use Rattle.px_frame.specs.Frame.{height_of}
 use Rattle.px_frame.specs.Groups.{groups_by}
-use Rattle.px_plan.specs.Size.{size_on}
-use Rattle.px_plan.specs.View.{tree}
+use Rattle.px_expression.specs.Size.{size_on}
+use Rattle.px_expression.specs.View.{tree}
 use Rattle.px_steps.specs.Finds.{Lacks, part_faults, part_frames}
 use Rattle.px_steps.specs.Plain.{columns_on, greatest}
 use Rattle.px_steps.proofs.Columns.{keys_high}

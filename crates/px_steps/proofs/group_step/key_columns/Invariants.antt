@@ -2,9 +2,9 @@ use Rattle.std.proofs.Common.{◌≡◌, map, drop}
 use Rattle.std.specs.List.{flat_map}
 use Rattle.px_value.specs.Option.{each}
 use Rattle.px_frame.specs.External.{alone}
-use Rattle.px_plan.specs.View.{tree}
+use Rattle.px_expression.specs.View.{tree}
 use Rattle.px_steps.specs.Finds.{key_faults}
-use Rattle.px_steps.specs.Form.{with_front}
+use Rattle.px_document.specs.Form.{with_front}
 use Rattle.px_steps.specs.Plain.{key_on}
 use Rattle.px_steps.proofs.group_step.key_columns.Given as goal
 

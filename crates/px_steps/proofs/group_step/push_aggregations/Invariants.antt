@@ -3,9 +3,9 @@ use Rattle.std.specs.List.{flat_map}
 use Rattle.px_value.specs.Option.{each}
 use Rattle.px_frame.specs.External.{alone}
 use Rattle.px_frame.specs.Groups.{rows_of}
-use Rattle.px_plan.specs.View.{tree}
+use Rattle.px_expression.specs.View.{tree}
 use Rattle.px_steps.specs.Finds.{part_faults}
-use Rattle.px_steps.specs.Form.{with_front}
+use Rattle.px_document.specs.Form.{with_front}
 use Rattle.px_steps.specs.Plain.{aggregated_on}
 use Rattle.px_steps.proofs.group_step.push_aggregations.Given as goal
 

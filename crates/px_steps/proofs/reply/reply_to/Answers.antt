@@ -1,6 +1,6 @@
 use Rattle.std.proofs.Common.{sym, subst}
 use Rattle.std.proofs.lemmas.Result.{IfOk-weaker}
-use Rattle.px_steps.specs.DocumentView.{document_view}
+use Rattle.px_document.specs.DocumentView.{document_view}
 use Rattle.px_steps.specs.Replies.{Grouped, Replies}
 use Rattle.px_steps.proofs.Replied.{document_built, is_result, is_refusal, grouped_by, with_cause}
 use Rattle.px_steps.proofs.reply.reply_to.Goals as goal

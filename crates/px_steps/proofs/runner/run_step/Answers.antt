@@ -1,6 +1,6 @@
 use Rattle.std.proofs.Common.{ap, map, option_map}
-use Rattle.px_plan.specs.View.{tree}
-use Rattle.px_steps.specs.Step.{step_view}
+use Rattle.px_expression.specs.View.{tree}
+use Rattle.px_document.specs.Step.{step_view}
 use Rattle.px_steps.proofs.Grouped.{group_built, group_run}
 use Rattle.px_steps.proofs.runner.run_step.Goals as goal
 

@@ -5,8 +5,8 @@ use Rattle.px_expr.specs.Planned.{Planned}
 use Rattle.px_frame.specs.CellView.{named_cell}
 use Rattle.px_frame.specs.External.{alone}
 use Rattle.px_frame.specs.Schema.{column_field}
-use Rattle.px_plan.specs.Value.{faults_on}
-use Rattle.px_plan.specs.View.{tree}
+use Rattle.px_expression.specs.Value.{faults_on}
+use Rattle.px_expression.specs.View.{tree}
 use Rattle.px_steps.specs.Causes.{IsCauseOfAny}
 use Rattle.px_steps.specs.Meets.{IsFirst}
 use Rattle.px_steps.specs.Plain.{named_value}

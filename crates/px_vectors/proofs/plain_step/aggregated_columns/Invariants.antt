@@ -2,7 +2,7 @@ use Rattle.std.proofs.Common.{◌≡◌, drop, map}
 use Rattle.std.specs.List.{flat_map}
 use Rattle.px_value.specs.Option.{each}
 use Rattle.px_steps.specs.Direct.{agg_refusals, aggregated_on}
-use Rattle.px_steps.specs.Form.{with_front}
+use Rattle.px_document.specs.Form.{with_front}
 use Rattle.px_vectors.specs.PlainStep.{tree_of}
 use Rattle.px_vectors.proofs.plain_step.aggregated_columns.Given as goal
 

@@ -1,9 +1,9 @@
 use Rattle.std.proofs.Common.{◌≡◌, drop, map}
 use Rattle.std.specs.List.{flat_map}
-use Rattle.px_plan.specs.Tree.{column}
+use Rattle.px_expression.specs.Tree.{column}
 use Rattle.px_value.specs.Option.{each}
 use Rattle.px_steps.specs.Direct.{key_on, key_refusals}
-use Rattle.px_steps.specs.Form.{with_front}
+use Rattle.px_document.specs.Form.{with_front}
 use Rattle.px_vectors.proofs.plain_step.key_columns.Given as goal
 
 abbrev pub invariant-loop-key : goal.invariant-loop-key

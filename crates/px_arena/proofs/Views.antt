@@ -1,0 +1,20 @@
+-- Lists of expressions and of places, seen one by one.
+use Rattle.std.proofs.Common.{◌≡◌, ℕ, zero, suc, ◌<◌, true, List, [], ◌∷◌, length, map, arith, slice_index_or}
+use Rattle.std.proofs.lemmas.Bool.Decides.{nat_tests}
+use Rattle.px_arena.proofs.Trees.{and_left, and_right}
+use Rattle.px_arena.specs.Arena.{is_below, all_below}
+use Rattle.px_expression.specs.Tree.{Tree, Trees, trees_of}
+use Rattle.px_expression.specs.View.{tree, trees, agg_step, tree_step, trees_step}
+use Rattle.px_expression.specs.declared.expr.Exprs.{Exprs, out-Exprs, fold_out-Exprs}
+use Rattle.px_arena.specs.declared.node.Node.{Node}
+
+pub trees_is : (es : Exprs) → trees es ≡ trees_of (map tree (out-Exprs es).items.items)
+trees_is es = fold_out-Exprs Tree Tree Trees agg_step tree_step trees_step es
+
+pub is_below_at : (n : ℕ) (e : Node) → is_below n e ≡ true → e.0 < n
+is_below_at n e b = grind (arith, nat_tests)
+
+pub all_below_at : (n : ℕ) (es : List Node) (i : ℕ) (d : Node) → all_below n es ≡ true → i < length es → (slice_index_or es i d).0 < n
+all_below_at n [] i d b h = absurd (omega arith)
+all_below_at n (e ∷ es) zero d b h = is_below_at n e (and_left (is_below n e) (all_below n es) b)
+all_below_at n (e ∷ es) (suc i) d b h = all_below_at n es i d (and_right (is_below n e) (all_below n es) b) (omega arith)

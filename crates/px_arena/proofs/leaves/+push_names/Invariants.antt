@@ -1,0 +1,18 @@
+use Rattle.std.proofs.Common.{◌≡◌, ◌+◌, ◌*◌, ◌++◌, drop}
+use Rattle.px_arena.specs.Arena.{trees_at}
+use Rattle.px_expression.specs.Nodes.{all_leaf_names}
+use Rattle.px_arena.proofs.leaves.+push_names.Given as goal
+
+abbrev pub decreases-push_names : goal.decreases-push_names
+decreases-push_names l = 3 * l.node.0 + 2
+
+abbrev pub decreases-push_all_names : goal.decreases-push_all_names
+decreases-push_all_names l = 3 * l.before + 1
+
+abbrev pub decreases-push_order_names : goal.decreases-push_order_names
+decreases-push_order_names l = 3 * l.before + 1
+
+abbrev pub invariant-push_all_names-loop-node : goal.invariant-push_all_names-loop-node
+invariant-push_all_names-loop-node l =
+    l.initial.names.items ++ all_leaf_names (trees_at l.arena l.nodes)
+    ≡ l.names.items ++ all_leaf_names (trees_at l.arena (drop l.node-index l.nodes))

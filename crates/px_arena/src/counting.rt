@@ -1,0 +1,120 @@
+//! Whether an expression's nodes have room in an arena.
+ghost use Rattle.std.specs.Prelude.{◌≡◌, ◌+◌, ◌^◌, ◌<◌, ◌↔◌, IsTrue, IsNone, IfSome, length};
+ghost use Rattle.px_expression.specs.Nodes.{nodes_of, all_nodes_of, order_nodes_of};
+ghost use Rattle.px_expression.specs.View.{tree, trees, agg_tree, order_tree};
+
+use crate::arena::Arena;
+use px_column::SortOptions;
+use px_expression::{AggExpr, Expr, Exprs};
+
+/// Whether an arena has room for all nodes of an expression, as `to_arena` requires.
+pub fn fits_arena(expr: &Expr, arena: &Arena) -> bool
+    ensures { IsTrue result ↔ (length arena.now + nodes_of (tree expr.now) < 2 ^ 32) }
+{
+    room_left(expr, u32::MAX - arena.len()).is_some()
+}
+
+// How many nodes have room behind those of an expression, where these have room themselves.
+#[cycle(counting)]
+fn room_left(expr: &Expr, room: u32) -> Option<u32>
+    ensures left { IfSome result (λ left. left + nodes_of (tree expr.now) ≡ room) }
+    ensures full { IsNone result → room < nodes_of (tree expr.now) }
+{
+    let room = room.checked_sub(1)?;
+    match expr {
+        Expr::Column(_) => Some(room),
+        Expr::Literal(_) => Some(room),
+        Expr::Alias(expr, _) => room_left(expr, room),
+        Expr::BinaryExpr { left, right, .. } => {
+            let room = room_left(left, room)?;
+            room_left(right, room)
+        }
+        Expr::Ternary {
+            predicate,
+            truthy,
+            falsy,
+        } => {
+            let room = room_left(predicate, room)?;
+            let room = room_left(truthy, room)?;
+            room_left(falsy, room)
+        }
+        Expr::Cast { expr, .. } => room_left(expr, room),
+        Expr::Function { input, .. } => room_behind_all(input, room),
+        Expr::Explode(expr) => room_left(expr, room),
+        Expr::Filter { input, by } => {
+            let room = room_left(input, room)?;
+            room_left(by, room)
+        }
+        Expr::Slice {
+            input,
+            offset,
+            length,
+        } => {
+            let room = room_left(input, room)?;
+            let room = room_left(offset, room)?;
+            room_left(length, room)
+        }
+        Expr::Gather { expr, idx, .. } => {
+            let room = room_left(expr, room)?;
+            room_left(idx, room)
+        }
+        Expr::Sort { expr, .. } => room_left(expr, room),
+        Expr::SortBy { expr, by, .. } => {
+            let room = room_left(expr, room)?;
+            room_behind_all(by, room)
+        }
+        Expr::Agg(agg) => room_behind_reduced(agg, room),
+        Expr::Len => Some(room),
+        Expr::Window {
+            function,
+            partition_by,
+            order_by,
+            ..
+        } => {
+            let room = room_left(function, room)?;
+            let room = room_behind_all(partition_by, room)?;
+            room_behind_order(order_by, room)
+        }
+    }
+}
+
+#[cycle(counting)]
+fn room_behind_all(exprs: &Exprs, room: u32) -> Option<u32>
+    ensures left { IfSome result (λ left. left + all_nodes_of (trees exprs.now) ≡ room) }
+    ensures full { IsNone result → room < all_nodes_of (trees exprs.now) }
+{
+    let mut left = room;
+    for expr in &exprs.items {
+        left = room_left(expr, left)?;
+    }
+    Some(left)
+}
+
+#[cycle(counting)]
+fn room_behind_order(order_by: &Option<(Box<Expr>, SortOptions)>, room: u32) -> Option<u32>
+    ensures left { IfSome result (λ left. left + order_nodes_of (order_tree order_by.now) ≡ room) }
+    ensures full { IsNone result → room < order_nodes_of (order_tree order_by.now) }
+{
+    match order_by {
+        None => Some(room),
+        Some((by, _)) => room_left(by, room),
+    }
+}
+
+// The room behind what is reduced: the reduction's own node is counted already.
+#[cycle(counting)]
+fn room_behind_reduced(agg: &AggExpr, room: u32) -> Option<u32>
+    ensures left { IfSome result (λ left. left + nodes_of (agg_tree agg.now) ≡ room + 1) }
+    ensures full { IsNone result → room + 1 < nodes_of (agg_tree agg.now) }
+{
+    match agg {
+        AggExpr::Min(expr)
+        | AggExpr::Max(expr)
+        | AggExpr::Sum(expr)
+        | AggExpr::First(expr)
+        | AggExpr::Last(expr)
+        | AggExpr::NUnique(expr)
+        | AggExpr::Implode(expr)
+        | AggExpr::Count(expr, _) => room_left(expr, room),
+    }
+}

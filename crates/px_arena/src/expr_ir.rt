@@ -1,0 +1,45 @@
+//! Expressions of a plan.
+ghost use Rattle.std.specs.Prelude.{◌≡◌, option_map};
+
+use crate::node::Node;
+use px_column::Name;
+use std::marker::Model;
+
+/// An expression in an arena, and the name that its result is given, if any (polars `ExprIR`).
+#[derive(Drop)]
+pub struct ExprIR {
+    node: Node,
+    alias: Option<Name>,
+}
+
+impl Model for ExprIR {
+    ghost use Rattle.px_arena.specs.Named.{NamedNode};
+
+    ghost Value = { NamedNode };
+
+    ghost view = { λ e. record { node = e.node; alias = e.alias } };
+}
+
+impl ExprIR {
+    /// The expression of a node, under this name if there is one.
+    pub fn new(node: Node, alias: Option<Name>) -> ExprIR
+        ensures node { result.node ≡ node }
+        ensures alias { result.alias ≡ alias }
+    {
+        ExprIR { node, alias }
+    }
+
+    /// The node.
+    pub fn node(&self) -> Node
+        ensures { result ≡ self.now.node }
+    {
+        self.node
+    }
+
+    /// The name that the result is given.
+    pub fn get_alias(&self) -> Option<&Name>
+        ensures { option_map (λ name. name.now) result ≡ self.now.alias }
+    {
+        self.alias.as_ref()
+    }
+}

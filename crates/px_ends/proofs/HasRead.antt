@@ -1,0 +1,16 @@
+-- What was read so far of the bytes that a source had left.
+use Rattle.std.proofs.Common.{◌≡◌, ℕ, ◌^◌, List, ◌++◌, length, refl, arith, length-append}
+use Rattle.std.specs.Prelude.{Option, Some, None, option_map}
+use Rattle.std.proofs.Math.Seq.{drop-append_seam}
+use Rattle.px_ends.specs.Ends.{IsTooLong}
+
+-- what was left is these bytes, and then what is left now
+pub record HasRead (bytes : List ℕ) (old new : Option (List ℕ)) : Type 0 where
+  pub is : old ≡ option_map (λ rest. bytes ++ rest) new
+
+-- reading stops where 2^26 bytes were read
+pub HasRead-limit : (bytes : List ℕ) (old new : Option (List ℕ)) →
+    HasRead bytes old new → length bytes ≡ 2 ^ 26 → IsTooLong old new
+HasRead-limit bytes old None h e = rw h.is refl
+HasRead-limit bytes old (Some b) h e =
+    rw h.is (omega (arith, length-append bytes b), rw (← e, drop-append_seam) refl)

@@ -1,0 +1,19 @@
+//! Expressions, their names, and what they mean on a frame.
+#![tactic(auto)]
+
+mod context;
+mod copy;
+mod expr;
+mod function;
+mod literal;
+mod naming;
+#[cfg(test)]
+mod tests;
+mod window;
+
+pub use context::Context;
+pub use expr::{AggExpr, Expr, Exprs};
+pub use function::FunctionExpr;
+pub use literal::LiteralValue;
+pub use naming::output_name;
+pub use window::{WindowMapping, WindowType};

@@ -1,6 +1,0 @@
-use Rattle.std.proofs.Common.{arith}
-use Rattle.px_steps.proofs.HasRead.{HasRead-limit}
-use Rattle.px_steps.proofs.transfer.read_all.Goals as goal
-
-pub returns-clause-stops : goal.returns-clause-stops
-returns-clause-stops g c = HasRead-limit _ _ _ c.loop-bytes.invariant.reads (omega (arith, c.loop-bytes.bytes.ok.0))

@@ -1,8 +1,0 @@
--- The document that a `Document` stands for.
-use Rattle.std.specs.Prelude.{map}
-use Rattle.px_steps.specs.Document.{Doc}
-use Rattle.px_steps.specs.Step.{step_view}
-use Rattle.px_steps.specs.declared.document.Document.{Document}
-
-abbrev pub document_view : Document → Doc
-document_view d = record { columns = d.frame; steps = map step_view d.steps.items }
