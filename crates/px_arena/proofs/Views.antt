@@ -8,7 +8,7 @@ use Rattle.px_expression.specs.View.{tree, trees, agg_step, tree_step, trees_ste
 use Rattle.px_expression.specs.declared.expr.Exprs.{Exprs, out-Exprs, fold_out-Exprs}
 use Rattle.px_arena.specs.declared.node.Node.{Node}
 
-pub trees_is : (es : Exprs) → trees es ≡ trees_of (map tree (out-Exprs es).items.items)
+pub trees_is : (es : Exprs) → trees es ≡ trees_of (map tree (out-Exprs es).items.value.items)
 trees_is es = fold_out-Exprs Tree Tree Trees agg_step tree_step trees_step es
 
 pub is_below_at : (n : ℕ) (e : Node) → is_below n e ≡ true → e.0 < n

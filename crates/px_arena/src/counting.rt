@@ -6,6 +6,7 @@ ghost use Rattle.px_expression.specs.View.{tree, trees, agg_tree, order_tree};
 use crate::arena::Arena;
 use px_column::SortOptions;
 use px_expression::{AggExpr, Expr, Exprs};
+use std::rc::Rc;
 
 /// Whether an arena has room for all nodes of an expression, as `to_arena` requires.
 pub fn fits_arena(expr: &Expr, arena: &Arena) -> bool
@@ -84,14 +85,14 @@ fn room_behind_all(exprs: &Exprs, room: u32) -> Option<u32>
     ensures full { IsNone result → room < all_nodes_of (trees exprs.now) }
 {
     let mut left = room;
-    for expr in &exprs.items {
+    for expr in exprs.items.iter() {
         left = room_left(expr, left)?;
     }
     Some(left)
 }
 
 #[cycle(counting)]
-fn room_behind_order(order_by: &Option<(Box<Expr>, SortOptions)>, room: u32) -> Option<u32>
+fn room_behind_order(order_by: &Option<(Rc<Expr>, SortOptions)>, room: u32) -> Option<u32>
     ensures left { IfSome result (λ left. left + order_nodes_of (order_tree order_by.now) ≡ room) }
     ensures full { IsNone result → room < order_nodes_of (order_tree order_by.now) }
 {

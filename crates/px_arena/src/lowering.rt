@@ -11,6 +11,7 @@ use crate::node::{AExpr, IRAggExpr, Node};
 use px_column::{Px, SortOptions};
 use px_expression::{AggExpr, Expr, Exprs};
 use std::alloc::Global;
+use std::rc::Rc;
 
 /// Adds an expression's nodes to an arena, each behind its children and these from left to right,
 /// and says where the last one stands, which is the expression's own (polars `to_aexpr`). There
@@ -183,7 +184,7 @@ fn all_to_arena(alloc: Global, exprs: &Exprs, arena: &mut Arena) -> Px<Vec<Node>
     ensures below { IfOk result (λ nodes. all_below (length arena.new) nodes.items ≡ true) }
 {
     let mut nodes = Vec::with_capacity(alloc, exprs.items.len())?;
-    for expr in &exprs.items {
+    for expr in exprs.items.iter() {
         nodes.push(to_arena(alloc, expr, arena)?)?;
     }
     Ok(nodes)
@@ -192,7 +193,7 @@ fn all_to_arena(alloc: Global, exprs: &Exprs, arena: &mut Arena) -> Px<Vec<Node>
 #[cycle(to_arena)]
 fn order_to_arena(
     alloc: Global,
-    order_by: &Option<(Box<Expr>, SortOptions)>,
+    order_by: &Option<(Rc<Expr>, SortOptions)>,
     arena: &mut Arena,
 ) -> Px<Option<(Node, SortOptions)>>
     requires { length arena.old + order_nodes_of (order_tree order_by.now) < 2 ^ 32 }

@@ -9,6 +9,7 @@ use crate::node::{AExpr, IRAggExpr, Node};
 use px_column::{Px, SortOptions};
 use px_expression::{AggExpr, Expr, Exprs};
 use std::alloc::Global;
+use std::rc::Rc;
 
 /// The expression of an arena's node (polars `node_to_expr`). After `to_arena` it has the same tree
 /// as the expression that was added.
@@ -21,12 +22,12 @@ pub fn node_to_expr(alloc: Global, node: Node, arena: &Arena) -> Px<Expr>
         AExpr::Column(name) => Ok(Expr::Column(name.try_clone(alloc)?)),
         AExpr::Literal(value) => Ok(Expr::Literal(value.try_clone(alloc)?)),
         AExpr::Alias(expr, name) => {
-            let expr = boxed(alloc, *expr, arena)?;
+            let expr = shared(alloc, *expr, arena)?;
             Ok(Expr::Alias(expr, name.try_clone(alloc)?))
         }
         AExpr::BinaryExpr { left, op, right } => {
-            let left = boxed(alloc, *left, arena)?;
-            let right = boxed(alloc, *right, arena)?;
+            let left = shared(alloc, *left, arena)?;
+            let right = shared(alloc, *right, arena)?;
             Ok(Expr::BinaryExpr {
                 left,
                 op: *op,
@@ -38,9 +39,9 @@ pub fn node_to_expr(alloc: Global, node: Node, arena: &Arena) -> Px<Expr>
             truthy,
             falsy,
         } => {
-            let predicate = boxed(alloc, *predicate, arena)?;
-            let truthy = boxed(alloc, *truthy, arena)?;
-            let falsy = boxed(alloc, *falsy, arena)?;
+            let predicate = shared(alloc, *predicate, arena)?;
+            let truthy = shared(alloc, *truthy, arena)?;
+            let falsy = shared(alloc, *falsy, arena)?;
             Ok(Expr::Ternary {
                 predicate,
                 truthy,
@@ -52,7 +53,7 @@ pub fn node_to_expr(alloc: Global, node: Node, arena: &Arena) -> Px<Expr>
             dtype,
             options,
         } => {
-            let expr = boxed(alloc, *expr, arena)?;
+            let expr = shared(alloc, *expr, arena)?;
             let dtype = dtype.try_clone(alloc)?;
             Ok(Expr::Cast {
                 expr,
@@ -67,10 +68,10 @@ pub fn node_to_expr(alloc: Global, node: Node, arena: &Arena) -> Px<Expr>
                 function: *function,
             })
         }
-        AExpr::Explode(expr) => Ok(Expr::Explode(boxed(alloc, *expr, arena)?)),
+        AExpr::Explode(expr) => Ok(Expr::Explode(shared(alloc, *expr, arena)?)),
         AExpr::Filter { input, by } => {
-            let input = boxed(alloc, *input, arena)?;
-            let by = boxed(alloc, *by, arena)?;
+            let input = shared(alloc, *input, arena)?;
+            let by = shared(alloc, *by, arena)?;
             Ok(Expr::Filter { input, by })
         }
         AExpr::Slice {
@@ -78,9 +79,9 @@ pub fn node_to_expr(alloc: Global, node: Node, arena: &Arena) -> Px<Expr>
             offset,
             length,
         } => {
-            let input = boxed(alloc, *input, arena)?;
-            let offset = boxed(alloc, *offset, arena)?;
-            let length = boxed(alloc, *length, arena)?;
+            let input = shared(alloc, *input, arena)?;
+            let offset = shared(alloc, *offset, arena)?;
+            let length = shared(alloc, *length, arena)?;
             Ok(Expr::Slice {
                 input,
                 offset,
@@ -92,8 +93,8 @@ pub fn node_to_expr(alloc: Global, node: Node, arena: &Arena) -> Px<Expr>
             idx,
             returns_scalar,
         } => {
-            let expr = boxed(alloc, *expr, arena)?;
-            let idx = boxed(alloc, *idx, arena)?;
+            let expr = shared(alloc, *expr, arena)?;
+            let idx = shared(alloc, *idx, arena)?;
             Ok(Expr::Gather {
                 expr,
                 idx,
@@ -101,7 +102,7 @@ pub fn node_to_expr(alloc: Global, node: Node, arena: &Arena) -> Px<Expr>
             })
         }
         AExpr::Sort { expr, options } => {
-            let expr = boxed(alloc, *expr, arena)?;
+            let expr = shared(alloc, *expr, arena)?;
             Ok(Expr::Sort {
                 expr,
                 options: *options,
@@ -112,7 +113,7 @@ pub fn node_to_expr(alloc: Global, node: Node, arena: &Arena) -> Px<Expr>
             by,
             sort_options,
         } => {
-            let expr = boxed(alloc, *expr, arena)?;
+            let expr = shared(alloc, *expr, arena)?;
             let by = nodes_to_exprs(alloc, by, node.0, arena)?;
             let sort_options = sort_options.try_clone(alloc)?;
             Ok(Expr::SortBy {
@@ -129,7 +130,7 @@ pub fn node_to_expr(alloc: Global, node: Node, arena: &Arena) -> Px<Expr>
             order_by,
             options,
         } => {
-            let function = boxed(alloc, *function, arena)?;
+            let function = shared(alloc, *function, arena)?;
             let partition_by = nodes_to_exprs(alloc, partition_by, node.0, arena)?;
             let order_by = order_to_expr(alloc, *order_by, node.0, arena)?;
             Ok(Expr::Window {
@@ -143,12 +144,12 @@ pub fn node_to_expr(alloc: Global, node: Node, arena: &Arena) -> Px<Expr>
 }
 
 #[cycle(node_to_expr)]
-fn boxed(alloc: Global, node: Node, arena: &Arena) -> Px<Box<Expr>>
+fn shared(alloc: Global, node: Node, arena: &Arena) -> Px<Rc<Expr>>
     requires { node.0 < length arena.now }
     ensures { AnswersBy (λ b. tree b.value) result (Ok (tree_at arena.now node)) }
 {
     let expr = node_to_expr(alloc, node, arena)?;
-    Ok(Box::new(alloc, expr)?)
+    Ok(Rc::new(alloc, expr)?)
 }
 
 // The expressions of nodes that stand before a place.
@@ -162,7 +163,9 @@ fn nodes_to_exprs(alloc: Global, nodes: &[Node], before: u32, arena: &Arena) -> 
     for node in nodes {
         items.push(node_to_expr(alloc, *node, arena)?)?;
     }
-    Ok(Exprs { items })
+    Ok(Exprs {
+        items: Rc::new(alloc, items)?,
+    })
 }
 
 #[cycle(node_to_expr)]
@@ -171,14 +174,14 @@ fn order_to_expr(
     order_by: Option<(Node, SortOptions)>,
     before: u32,
     arena: &Arena,
-) -> Px<Option<(Box<Expr>, SortOptions)>>
+) -> Px<Option<(Rc<Expr>, SortOptions)>>
     requires within { before ≤ length arena.now }
     requires below { order_below before order_by ≡ true }
     ensures { AnswersBy order_tree result (Ok (order_at arena.now order_by)) }
 {
     match order_by {
         None => Ok(None),
-        Some((by, options)) => Ok(Some((boxed(alloc, by, arena)?, options))),
+        Some((by, options)) => Ok(Some((shared(alloc, by, arena)?, options))),
     }
 }
 
@@ -189,13 +192,13 @@ fn agg_to_expr(alloc: Global, agg: IRAggExpr, before: u32, arena: &Arena) -> Px<
     ensures { AnswersBy agg_tree result (Ok (agg_at arena.now agg)) }
 {
     match agg {
-        IRAggExpr::Min(expr) => Ok(AggExpr::Min(boxed(alloc, expr, arena)?)),
-        IRAggExpr::Max(expr) => Ok(AggExpr::Max(boxed(alloc, expr, arena)?)),
-        IRAggExpr::Sum(expr) => Ok(AggExpr::Sum(boxed(alloc, expr, arena)?)),
-        IRAggExpr::First(expr) => Ok(AggExpr::First(boxed(alloc, expr, arena)?)),
-        IRAggExpr::Last(expr) => Ok(AggExpr::Last(boxed(alloc, expr, arena)?)),
-        IRAggExpr::NUnique(expr) => Ok(AggExpr::NUnique(boxed(alloc, expr, arena)?)),
-        IRAggExpr::Implode(expr) => Ok(AggExpr::Implode(boxed(alloc, expr, arena)?)),
-        IRAggExpr::Count(expr, nulls) => Ok(AggExpr::Count(boxed(alloc, expr, arena)?, nulls)),
+        IRAggExpr::Min(expr) => Ok(AggExpr::Min(shared(alloc, expr, arena)?)),
+        IRAggExpr::Max(expr) => Ok(AggExpr::Max(shared(alloc, expr, arena)?)),
+        IRAggExpr::Sum(expr) => Ok(AggExpr::Sum(shared(alloc, expr, arena)?)),
+        IRAggExpr::First(expr) => Ok(AggExpr::First(shared(alloc, expr, arena)?)),
+        IRAggExpr::Last(expr) => Ok(AggExpr::Last(shared(alloc, expr, arena)?)),
+        IRAggExpr::NUnique(expr) => Ok(AggExpr::NUnique(shared(alloc, expr, arena)?)),
+        IRAggExpr::Implode(expr) => Ok(AggExpr::Implode(shared(alloc, expr, arena)?)),
+        IRAggExpr::Count(expr, nulls) => Ok(AggExpr::Count(shared(alloc, expr, arena)?, nulls)),
     }
 }

@@ -4,10 +4,11 @@ use crate::*;
 use px_column::{Name, Operator, Px, PxError, SortOptions};
 use px_expression::{AggExpr, Expr, Exprs, LiteralValue, WindowMapping, WindowType};
 use std::alloc::Global;
+use std::rc::Rc;
 use std::test::Fail;
 
-fn column(alloc: Global, name: &str) -> Px<Box<Expr>> {
-    Ok(Box::new(alloc, Expr::Column(Name::new(alloc, name)?))?)
+fn column(alloc: Global, name: &str) -> Px<Rc<Expr>> {
+    Ok(Rc::new(alloc, Expr::Column(Name::new(alloc, name)?))?)
 }
 
 fn is_column(expr: &Expr, name: &str) -> bool {
@@ -17,7 +18,7 @@ fn is_column(expr: &Expr, name: &str) -> bool {
     }
 }
 
-fn plus(left: Box<Expr>, right: Box<Expr>) -> Expr {
+fn plus(left: Rc<Expr>, right: Rc<Expr>) -> Expr {
     Expr::BinaryExpr {
         left,
         op: Operator::Plus,
@@ -65,7 +66,7 @@ fn sum_is_placed(alloc: Global) -> Px<bool> {
 
 // Whether `x Plus 1` has three nodes, its own the last, and comes back.
 fn sum_returns(alloc: Global) -> Px<bool> {
-    let one = Box::new(alloc, Expr::Literal(LiteralValue::Int64(1)))?;
+    let one = Rc::new(alloc, Expr::Literal(LiteralValue::Int64(1)))?;
     let expr = plus(column(alloc, "x")?, one);
     let mut arena = Arena::new(alloc)?;
     let node = place(alloc, &expr, &mut arena)?;
@@ -101,14 +102,16 @@ fn operands_stand_apart(alloc: Global) -> Px<bool> {
 fn window(alloc: Global) -> Px<Expr> {
     let sum = Expr::Agg(AggExpr::Sum(column(alloc, "x")?));
     let mut items = Vec::new(alloc);
-    items.push(Box::into_inner(column(alloc, "k")?))?;
+    items.push(Expr::Column(Name::new(alloc, "k")?))?;
     let options = SortOptions {
         descending: true,
         nulls_last: false,
     };
     Ok(Expr::Window {
-        function: Box::new(alloc, sum)?,
-        partition_by: Exprs { items },
+        function: Rc::new(alloc, sum)?,
+        partition_by: Exprs {
+            items: Rc::new(alloc, items)?,
+        },
         order_by: Some((column(alloc, "o")?, options)),
         options: WindowType::Over(WindowMapping::Join),
     })

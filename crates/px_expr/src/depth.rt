@@ -5,6 +5,7 @@ ghost use Rattle.px_expr.specs.Depth.{depth_of, all_depth_of, order_depth_of, ha
 
 use px_column::SortOptions;
 use px_plan::{AggExpr, Expr, Exprs};
+use std::rc::Rc;
 
 /// Whether a window stands in an expression.
 #[cycle(windows)]
@@ -43,7 +44,7 @@ pub(crate) fn has_window(expr: &Expr) -> bool
 fn have_window(exprs: &Exprs) -> bool
     ensures { result ≡ have_window (trees exprs.now) }
 {
-    for expr in &exprs.items {
+    for expr in exprs.items.iter() {
         if has_window(expr) {
             return true;
         }
@@ -124,7 +125,7 @@ fn reaches(expr: &Expr, nodes: u16) -> bool
 fn one_reaches(exprs: &Exprs, nodes: u16) -> bool
     ensures { result ≡ nat_le nodes (all_depth_of (trees exprs.now)) }
 {
-    for expr in &exprs.items {
+    for expr in exprs.items.iter() {
         if reaches(expr, nodes) {
             return true;
         }
@@ -133,7 +134,7 @@ fn one_reaches(exprs: &Exprs, nodes: u16) -> bool
 }
 
 #[cycle(depth)]
-fn order_reaches(order: &Option<(Box<Expr>, SortOptions)>, nodes: u16) -> bool
+fn order_reaches(order: &Option<(Rc<Expr>, SortOptions)>, nodes: u16) -> bool
     ensures { result ≡ nat_le nodes (order_depth_of (order_tree order.now)) }
 {
     match order {

@@ -5,7 +5,7 @@ ghost use Rattle.px_value.specs.Answer.{AnswersBy};
 ghost use Rattle.px_value.specs.declared.method.GroupByMethod.TheVariants.{Sum};
 ghost use Rattle.px_arena.specs.Arena.{tree_at};
 ghost use Rattle.px_expression.specs.Tree.{column, literal, alias, agg};
-ghost use Rattle.px_expression.specs.View.{tree, literal_of};
+ghost use Rattle.px_expression.specs.View.{tree, agg_tree, literal_of};
 ghost use Rattle.px_expr.specs.Built.{is_built_tree};
 ghost use Rattle.px_expr.specs.NodeView.{plan_of};
 ghost use Rattle.px_expr.specs.Plan.{plan_in, plans_in, planned_over, noted, all_noted, IsPlannable, NotesFront};
@@ -16,9 +16,7 @@ use crate::node::{
 };
 use px_column::{GroupByMethod, Name, Px};
 use px_frame::SchemaRef;
-use px_plan::{
-    AExpr, Arena, Context, Expr, ExprIR, IRAggExpr, LiteralValue, Node, node_to_expr, type_of,
-};
+use px_plan::{AggExpr, Arena, Context, Expr, ExprIR, LiteralValue, node_to_expr, type_of};
 use std::alloc::Global;
 
 /// The nodes of expressions in their order, each under the name that it is given, if any; or the first
@@ -62,11 +60,10 @@ pub fn create_physical_expr(
     ensures noted { OnOk result (state.new ≡ noted (tree_at expr_arena.now expr_ir.now.node) state.old) }
     ensures refused { OnErr result (state.new ≡ state.old) }
 {
-    let node = expr_ir.node();
-    let expr = node_to_expr(alloc, node, expr_arena)?;
+    let expr = node_to_expr(alloc, expr_ir.node(), expr_arena)?;
     type_of(alloc, &expr, schema, ctxt)?;
     let noted = state.noting(&expr);
-    let input = plan_node(alloc, node, expr_arena, schema)?;
+    let input = plan_expr(alloc, &expr, schema)?;
     let plan = match expr_ir.get_alias() {
         None => input,
         Some(name) => plan_alias(alloc, input, name, expr)?,
@@ -75,27 +72,44 @@ pub fn create_physical_expr(
     Ok(plan)
 }
 
-// The node of an expression that has no refusal over the schema.
-#[cycle(plan_node)]
-fn plan_node(alloc: Global, node: Node, arena: &Arena, schema: &SchemaRef) -> Px<PhysExpr>
-    requires node { node.0 < length arena.now }
-    requires built { is_built_tree (tree_at arena.now node) ≡ true }
-    ensures { AnswersBy plan_of result (Ok (planned_over schema.now.value (tree_at arena.now node))) }
+// The node of an expression that has no refusal over the schema; the nodes share its parts.
+#[cycle(plan_expr)]
+fn plan_expr(alloc: Global, expr: &Expr, schema: &SchemaRef) -> Px<PhysExpr>
+    requires { is_built_tree (tree expr.now) ≡ true }
+    ensures { AnswersBy plan_of result (Ok (planned_over schema.now.value (tree expr.now))) }
 {
-    match arena.get(node) {
-        AExpr::Column(name) => plan_column(alloc, name, schema),
-        AExpr::Literal(value) => plan_literal(alloc, value),
-        AExpr::Alias(input, name) => {
-            let expr = node_to_expr(alloc, *input, arena)?;
-            let input = plan_node(alloc, *input, arena, schema)?;
+    match expr {
+        Expr::Column(name) => plan_column(alloc, name, schema),
+        Expr::Literal(value) => plan_literal(alloc, value),
+        Expr::Alias(input, name) => {
+            let expr = input.try_clone(alloc)?;
+            let input = plan_expr(alloc, input, schema)?;
             plan_alias(alloc, input, name, expr)
         }
-        AExpr::Agg(IRAggExpr::Sum(input)) => {
-            let input = plan_node(alloc, *input, arena, schema)?;
+        Expr::Agg(reduction) => plan_reduction(alloc, reduction, schema),
+        Expr::Len => Ok(PhysExpr::Count(CountExpr::new())),
+        _ => unreachable!(),
+    }
+}
+
+// The node of a reduction that has no refusal over the schema.
+#[cycle(plan_expr)]
+fn plan_reduction(alloc: Global, reduction: &AggExpr, schema: &SchemaRef) -> Px<PhysExpr>
+    requires { is_built_tree (agg_tree reduction.now) ≡ true }
+    ensures { AnswersBy plan_of result (Ok (planned_over schema.now.value (agg_tree reduction.now))) }
+{
+    match reduction {
+        AggExpr::Sum(input) => {
+            let input = plan_expr(alloc, input, schema)?;
             plan_sum(alloc, input)
         }
-        AExpr::Len => Ok(PhysExpr::Count(CountExpr::new())),
-        _ => unreachable!(),
+        AggExpr::Min(_)
+        | AggExpr::Max(_)
+        | AggExpr::First(_)
+        | AggExpr::Last(_)
+        | AggExpr::NUnique(_)
+        | AggExpr::Implode(_)
+        | AggExpr::Count(..) => unreachable!(),
     }
 }
 
@@ -121,8 +135,7 @@ fn plan_alias(alloc: Global, input: PhysExpr, name: &Name, expr: Expr) -> Px<Phy
     ensures { AnswersBy plan_of result (Ok (record (plan_of input) { tree = alias (plan_of input).tree name.now })) }
 {
     let input = Box::new(alloc, input)?;
-    let name = name.try_clone(alloc)?;
-    Ok(PhysExpr::Alias(AliasExpr::new(input, name, expr)))
+    Ok(PhysExpr::Alias(AliasExpr::new(input, name.try_clone(alloc)?, expr)))
 }
 
 fn plan_sum(alloc: Global, input: PhysExpr) -> Px<PhysExpr>

@@ -1,7 +1,7 @@
 -- The tree that an `Expr` stands for.
 use Rattle.std.specs.Prelude.{pos, Option, Some, None}
 use Rattle.std.specs.declared.alloc.Global.{Global}
-use Rattle.std.specs.declared.boxed.Box.{Box}
+use Rattle.std.specs.declared.rc.Rc.{Rc}
 use Rattle.px_value.specs.Datum.{boolean, integer, text, bytes}
 use Rattle.px_value.specs.Kind as k
 use Rattle.px_value.specs.KindView.{kind_of}
@@ -53,7 +53,7 @@ agg_step (AggExpr-F.Implode e) = t.agg method.Implode e.value
 agg_step (AggExpr-F.Count e b) = t.agg (method.Count b) e.value
 
 -- an order by an expression that is already seen as its tree, or no order
-abbrev pub order_step : Option (Box Tree Global × SortOptions) → Order
+abbrev pub order_step : Option (Rc Tree Global × SortOptions) → Order
 order_step None = no_order
 order_step (Some o) = ordered o.0.value o.1
 
@@ -78,7 +78,7 @@ tree_step (Expr-F.Window f keys order options) = t.window f.value keys (order_st
 
 -- a list of expressions, each already seen as its tree
 abbrev pub trees_step : Exprs-F Tree Tree Trees → Trees
-trees_step es = trees_of es.items.items
+trees_step es = trees_of es.items.value.items
 
 -- the tree that an expression stands for
 abbrev pub tree : Expr → Tree
@@ -93,6 +93,6 @@ abbrev pub trees : Exprs → Trees
 trees = fold-Exprs Tree Tree Trees agg_step tree_step trees_step
 
 -- what the rows of a part are ordered by
-abbrev pub order_tree : Option (Box Expr Global × SortOptions) → Order
+abbrev pub order_tree : Option (Rc Expr Global × SortOptions) → Order
 order_tree None = no_order
 order_tree (Some o) = ordered (tree o.0.value) o.1

@@ -6,189 +6,131 @@ ghost use Rattle.px_expression.specs.View.{tree, trees, agg_tree, order_tree};
 use crate::expr::{AggExpr, Expr, Exprs};
 use px_column::{Px, SortOptions};
 use std::alloc::Global;
+use std::rc::Rc;
 
 impl Expr {
-    /// An equal expression.
+    /// An equal expression, which shares what it is made of.
     pub fn try_clone(&self, alloc: Global) -> Px<Expr>
         ensures { AnswersBy tree result (Ok (tree self.now)) }
     {
-        copy(alloc, self)
-    }
-}
-
-#[cycle(copy)]
-fn copy(alloc: Global, expr: &Expr) -> Px<Expr>
-    ensures { AnswersBy tree result (Ok (tree expr.now)) }
-{
-    match expr {
-        Expr::Column(name) => Ok(Expr::Column(name.try_clone(alloc)?)),
-        Expr::Literal(value) => Ok(Expr::Literal(value.try_clone(alloc)?)),
-        Expr::Alias(expr, name) => {
-            let expr = boxed(alloc, expr)?;
-            Ok(Expr::Alias(expr, name.try_clone(alloc)?))
-        }
-        Expr::BinaryExpr { left, op, right } => {
-            let left = boxed(alloc, left)?;
-            let right = boxed(alloc, right)?;
-            Ok(Expr::BinaryExpr {
-                left,
+        match self {
+            Expr::Column(name) => Ok(Expr::Column(name.try_clone(alloc)?)),
+            Expr::Literal(value) => Ok(Expr::Literal(value.try_clone(alloc)?)),
+            Expr::Alias(expr, name) => Ok(Expr::Alias(expr.clone()?, name.try_clone(alloc)?)),
+            Expr::BinaryExpr { left, op, right } => Ok(Expr::BinaryExpr {
+                left: left.clone()?,
                 op: *op,
-                right,
-            })
-        }
-        Expr::Ternary {
-            predicate,
-            truthy,
-            falsy,
-        } => {
-            let predicate = boxed(alloc, predicate)?;
-            let truthy = boxed(alloc, truthy)?;
-            let falsy = boxed(alloc, falsy)?;
-            Ok(Expr::Ternary {
+                right: right.clone()?,
+            }),
+            Expr::Ternary {
                 predicate,
                 truthy,
                 falsy,
-            })
-        }
-        Expr::Cast {
-            expr,
-            dtype,
-            options,
-        } => {
-            let expr = boxed(alloc, expr)?;
-            let dtype = dtype.try_clone(alloc)?;
-            Ok(Expr::Cast {
+            } => Ok(Expr::Ternary {
+                predicate: predicate.clone()?,
+                truthy: truthy.clone()?,
+                falsy: falsy.clone()?,
+            }),
+            Expr::Cast {
                 expr,
                 dtype,
+                options,
+            } => Ok(Expr::Cast {
+                expr: expr.clone()?,
+                dtype: dtype.try_clone(alloc)?,
                 options: *options,
-            })
-        }
-        Expr::Function { input, function } => {
-            let input = copy_all(alloc, input)?;
-            Ok(Expr::Function {
-                input,
+            }),
+            Expr::Function { input, function } => Ok(Expr::Function {
+                input: input.share()?,
                 function: *function,
-            })
-        }
-        Expr::Explode(expr) => Ok(Expr::Explode(boxed(alloc, expr)?)),
-        Expr::Filter { input, by } => {
-            let input = boxed(alloc, input)?;
-            let by = boxed(alloc, by)?;
-            Ok(Expr::Filter { input, by })
-        }
-        Expr::Slice {
-            input,
-            offset,
-            length,
-        } => {
-            let input = boxed(alloc, input)?;
-            let offset = boxed(alloc, offset)?;
-            let length = boxed(alloc, length)?;
-            Ok(Expr::Slice {
+            }),
+            Expr::Explode(expr) => Ok(Expr::Explode(expr.clone()?)),
+            Expr::Filter { input, by } => Ok(Expr::Filter {
+                input: input.clone()?,
+                by: by.clone()?,
+            }),
+            Expr::Slice {
                 input,
                 offset,
                 length,
-            })
-        }
-        Expr::Gather {
-            expr,
-            idx,
-            returns_scalar,
-        } => {
-            let expr = boxed(alloc, expr)?;
-            let idx = boxed(alloc, idx)?;
-            Ok(Expr::Gather {
+            } => Ok(Expr::Slice {
+                input: input.clone()?,
+                offset: offset.clone()?,
+                length: length.clone()?,
+            }),
+            Expr::Gather {
                 expr,
                 idx,
+                returns_scalar,
+            } => Ok(Expr::Gather {
+                expr: expr.clone()?,
+                idx: idx.clone()?,
                 returns_scalar: *returns_scalar,
-            })
-        }
-        Expr::Sort { expr, options } => {
-            let expr = boxed(alloc, expr)?;
-            Ok(Expr::Sort {
-                expr,
+            }),
+            Expr::Sort { expr, options } => Ok(Expr::Sort {
+                expr: expr.clone()?,
                 options: *options,
-            })
-        }
-        Expr::SortBy {
-            expr,
-            by,
-            sort_options,
-        } => {
-            let expr = boxed(alloc, expr)?;
-            let by = copy_all(alloc, by)?;
-            let sort_options = sort_options.try_clone(alloc)?;
-            Ok(Expr::SortBy {
+            }),
+            Expr::SortBy {
                 expr,
                 by,
                 sort_options,
-            })
-        }
-        Expr::Agg(agg) => Ok(Expr::Agg(copy_agg(alloc, agg)?)),
-        Expr::Len => Ok(Expr::Len),
-        Expr::Window {
-            function,
-            partition_by,
-            order_by,
-            options,
-        } => {
-            let function = boxed(alloc, function)?;
-            let partition_by = copy_all(alloc, partition_by)?;
-            let order_by = copy_order(alloc, order_by)?;
-            Ok(Expr::Window {
+            } => Ok(Expr::SortBy {
+                expr: expr.clone()?,
+                by: by.share()?,
+                sort_options: sort_options.try_clone(alloc)?,
+            }),
+            Expr::Agg(agg) => Ok(Expr::Agg(agg.share()?)),
+            Expr::Len => Ok(Expr::Len),
+            Expr::Window {
                 function,
                 partition_by,
                 order_by,
+                options,
+            } => Ok(Expr::Window {
+                function: function.clone()?,
+                partition_by: partition_by.share()?,
+                order_by: share_order(order_by)?,
                 options: *options,
-            })
+            }),
         }
     }
 }
 
-#[cycle(copy)]
-fn boxed(alloc: Global, expr: &Expr) -> Px<Box<Expr>>
-    ensures { AnswersBy (λ b. tree b.value) result (Ok (tree expr.now)) }
-{
-    let copied = copy(alloc, expr)?;
-    Ok(Box::new(alloc, copied)?)
-}
-
-#[cycle(copy)]
-fn copy_all(alloc: Global, exprs: &Exprs) -> Px<Exprs>
-    ensures { AnswersBy trees result (Ok (trees exprs.now)) }
-{
-    let mut items = Vec::with_capacity(alloc, exprs.items.len())?;
-    for expr in &exprs.items {
-        items.push(copy(alloc, expr)?)?;
+impl Exprs {
+    /// The same list once more.
+    fn share(&self) -> Px<Exprs>
+        ensures { AnswersBy trees result (Ok (trees self.now)) }
+    {
+        let items = self.items.clone()?;
+        Ok(Exprs { items })
     }
-    Ok(Exprs { items })
 }
 
-#[cycle(copy)]
-fn copy_order(
-    alloc: Global,
-    order_by: &Option<(Box<Expr>, SortOptions)>,
-) -> Px<Option<(Box<Expr>, SortOptions)>>
+impl AggExpr {
+    /// The same reduction once more.
+    fn share(&self) -> Px<AggExpr>
+        ensures { AnswersBy agg_tree result (Ok (agg_tree self.now)) }
+    {
+        match self {
+            AggExpr::Min(expr) => Ok(AggExpr::Min(expr.clone()?)),
+            AggExpr::Max(expr) => Ok(AggExpr::Max(expr.clone()?)),
+            AggExpr::Sum(expr) => Ok(AggExpr::Sum(expr.clone()?)),
+            AggExpr::First(expr) => Ok(AggExpr::First(expr.clone()?)),
+            AggExpr::Last(expr) => Ok(AggExpr::Last(expr.clone()?)),
+            AggExpr::NUnique(expr) => Ok(AggExpr::NUnique(expr.clone()?)),
+            AggExpr::Implode(expr) => Ok(AggExpr::Implode(expr.clone()?)),
+            AggExpr::Count(expr, nulls) => Ok(AggExpr::Count(expr.clone()?, *nulls)),
+        }
+    }
+}
+
+/// The same order once more.
+fn share_order(order_by: &Option<(Rc<Expr>, SortOptions)>) -> Px<Option<(Rc<Expr>, SortOptions)>>
     ensures { AnswersBy order_tree result (Ok (order_tree order_by.now)) }
 {
     match order_by {
         None => Ok(None),
-        Some((by, options)) => Ok(Some((boxed(alloc, by)?, *options))),
-    }
-}
-
-#[cycle(copy)]
-fn copy_agg(alloc: Global, agg: &AggExpr) -> Px<AggExpr>
-    ensures { AnswersBy agg_tree result (Ok (agg_tree agg.now)) }
-{
-    match agg {
-        AggExpr::Min(expr) => Ok(AggExpr::Min(boxed(alloc, expr)?)),
-        AggExpr::Max(expr) => Ok(AggExpr::Max(boxed(alloc, expr)?)),
-        AggExpr::Sum(expr) => Ok(AggExpr::Sum(boxed(alloc, expr)?)),
-        AggExpr::First(expr) => Ok(AggExpr::First(boxed(alloc, expr)?)),
-        AggExpr::Last(expr) => Ok(AggExpr::Last(boxed(alloc, expr)?)),
-        AggExpr::NUnique(expr) => Ok(AggExpr::NUnique(boxed(alloc, expr)?)),
-        AggExpr::Implode(expr) => Ok(AggExpr::Implode(boxed(alloc, expr)?)),
-        AggExpr::Count(expr, nulls) => Ok(AggExpr::Count(boxed(alloc, expr)?, *nulls)),
+        Some((by, options)) => Ok(Some((by.clone()?, *options))),
     }
 }

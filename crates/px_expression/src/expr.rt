@@ -4,8 +4,9 @@ use crate::function::FunctionExpr;
 use crate::literal::LiteralValue;
 use crate::window::WindowType;
 use px_column::{CastOptions, DataType, Name, Operator, SortMultipleOptions, SortOptions};
+use std::rc::Rc;
 
-/// An expression over the columns of a frame.
+/// An expression over the columns of a frame. Copies share what they are made of.
 #[cycle(expr)]
 #[derive(Drop)]
 pub enum Expr {
@@ -14,22 +15,22 @@ pub enum Expr {
     /// A value, a range of integers, or a column of its own.
     Literal(LiteralValue),
     /// An expression under another name.
-    Alias(Box<Expr>, Name),
+    Alias(Rc<Expr>, Name),
     /// Two expressions combined row by row.
     BinaryExpr {
-        left: Box<Expr>,
+        left: Rc<Expr>,
         op: Operator,
-        right: Box<Expr>,
+        right: Rc<Expr>,
     },
     /// Row by row the one where the predicate is true, else the other.
     Ternary {
-        predicate: Box<Expr>,
-        truthy: Box<Expr>,
-        falsy: Box<Expr>,
+        predicate: Rc<Expr>,
+        truthy: Rc<Expr>,
+        falsy: Rc<Expr>,
     },
     /// An expression's values in another type.
     Cast {
-        expr: Box<Expr>,
+        expr: Rc<Expr>,
         dtype: DataType,
         options: CastOptions,
     },
@@ -39,32 +40,32 @@ pub enum Expr {
         function: FunctionExpr,
     },
     /// The values in an expression's lists, one after another.
-    Explode(Box<Expr>),
+    Explode(Rc<Expr>),
     /// The rows for which `by` is true.
     Filter {
-        input: Box<Expr>,
-        by: Box<Expr>,
+        input: Rc<Expr>,
+        by: Rc<Expr>,
     },
     /// A window of rows.
     Slice {
-        input: Box<Expr>,
-        offset: Box<Expr>,
-        length: Box<Expr>,
+        input: Rc<Expr>,
+        offset: Rc<Expr>,
+        length: Rc<Expr>,
     },
     /// The rows at these places; with `returns_scalar` the one row at one place.
     Gather {
-        expr: Box<Expr>,
-        idx: Box<Expr>,
+        expr: Rc<Expr>,
+        idx: Rc<Expr>,
         returns_scalar: bool,
     },
     /// The rows in sorted order.
     Sort {
-        expr: Box<Expr>,
+        expr: Rc<Expr>,
         options: SortOptions,
     },
     /// The rows, sorted by others.
     SortBy {
-        expr: Box<Expr>,
+        expr: Rc<Expr>,
         by: Exprs,
         sort_options: SortMultipleOptions,
     },
@@ -74,18 +75,18 @@ pub enum Expr {
     Len,
     /// A function of each part of the rows by keys.
     Window {
-        function: Box<Expr>,
+        function: Rc<Expr>,
         partition_by: Exprs,
-        order_by: Option<(Box<Expr>, SortOptions)>,
+        order_by: Option<(Rc<Expr>, SortOptions)>,
         options: WindowType,
     },
 }
 
-/// A list of expressions.
+/// A list of expressions, which its copies share.
 #[cycle(expr)]
 #[derive(Drop)]
 pub struct Exprs {
-    pub items: Vec<Expr>,
+    pub items: Rc<Vec<Expr>>,
 }
 
 /// A reduction: an expression's rows become one value.
@@ -93,19 +94,19 @@ pub struct Exprs {
 #[derive(Drop)]
 pub enum AggExpr {
     /// The least of the present values.
-    Min(Box<Expr>),
+    Min(Rc<Expr>),
     /// The greatest of the present values.
-    Max(Box<Expr>),
+    Max(Rc<Expr>),
     /// The sum of the present values.
-    Sum(Box<Expr>),
+    Sum(Rc<Expr>),
     /// The first row.
-    First(Box<Expr>),
+    First(Rc<Expr>),
     /// The last row.
-    Last(Box<Expr>),
+    Last(Rc<Expr>),
     /// The number of distinct rows.
-    NUnique(Box<Expr>),
+    NUnique(Rc<Expr>),
     /// The list of all rows.
-    Implode(Box<Expr>),
+    Implode(Rc<Expr>),
     /// The number of rows, with nulls or without.
-    Count(Box<Expr>, bool),
+    Count(Rc<Expr>, bool),
 }

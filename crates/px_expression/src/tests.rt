@@ -1,17 +1,18 @@
 use crate::*;
 use px_column::{ClosedInterval, DataType, Name, Operator, Px};
 use std::alloc::Global;
+use std::rc::Rc;
 use std::test::Fail;
 
-fn column(alloc: Global, name: &str) -> Px<Box<Expr>> {
-    Ok(Box::new(alloc, Expr::Column(Name::new(alloc, name)?))?)
+fn column(alloc: Global, name: &str) -> Px<Rc<Expr>> {
+    Ok(Rc::new(alloc, Expr::Column(Name::new(alloc, name)?))?)
 }
 
-fn one(alloc: Global) -> Px<Box<Expr>> {
-    Ok(Box::new(alloc, Expr::Literal(LiteralValue::Int64(1)))?)
+fn one(alloc: Global) -> Px<Rc<Expr>> {
+    Ok(Rc::new(alloc, Expr::Literal(LiteralValue::Int64(1)))?)
 }
 
-fn operated(left: Box<Expr>, op: Operator, right: Box<Expr>) -> Expr {
+fn operated(left: Rc<Expr>, op: Operator, right: Rc<Expr>) -> Expr {
     Expr::BinaryExpr { left, op, right }
 }
 
@@ -20,20 +21,16 @@ fn one_more(alloc: Global, name: &str) -> Px<Expr> {
     Ok(operated(column(alloc, name)?, Operator::Plus, one(alloc)?))
 }
 
-// One expression behind another.
-fn two(alloc: Global, first: Box<Expr>, second: Box<Expr>) -> Px<Exprs> {
-    let mut items = Vec::new(alloc);
-    items.push(Box::into_inner(first))?;
-    items.push(Box::into_inner(second))?;
-    Ok(Exprs { items })
-}
-
 // `s` between 1 and 1: the bounds after what lies between them.
 fn between(alloc: Global) -> Px<Expr> {
-    let mut input = two(alloc, column(alloc, "s")?, one(alloc)?)?;
-    input.items.push(Box::into_inner(one(alloc)?))?;
+    let mut items = Vec::new(alloc);
+    items.push(Expr::Column(Name::new(alloc, "s")?))?;
+    items.push(Expr::Literal(LiteralValue::Int64(1)))?;
+    items.push(Expr::Literal(LiteralValue::Int64(1)))?;
     Ok(Expr::Function {
-        input,
+        input: Exprs {
+            items: Rc::new(alloc, items)?,
+        },
         function: FunctionExpr::IsBetween {
             closed: ClosedInterval::Both,
         },
@@ -43,10 +40,12 @@ fn between(alloc: Global) -> Px<Expr> {
 // `x` Plus 1 over `i`.
 fn window(alloc: Global) -> Px<Expr> {
     let mut items = Vec::new(alloc);
-    items.push(Box::into_inner(column(alloc, "i")?))?;
+    items.push(Expr::Column(Name::new(alloc, "i")?))?;
     Ok(Expr::Window {
-        function: Box::new(alloc, one_more(alloc, "x")?)?,
-        partition_by: Exprs { items },
+        function: Rc::new(alloc, one_more(alloc, "x")?)?,
+        partition_by: Exprs {
+            items: Rc::new(alloc, items)?,
+        },
         order_by: None,
         options: WindowType::Over(WindowMapping::Join),
     })
@@ -60,7 +59,7 @@ fn has_name(alloc: Global, expr: &Expr, name: &str) -> Px<bool> {
 #[test]
 fn results_have_names(rt: HostRuntime) -> Result<(), Fail> {
     let alloc = rt.alloc();
-    let sum = Box::new(alloc, one_more(alloc, "x")?)?;
+    let sum = Rc::new(alloc, one_more(alloc, "x")?)?;
     assert!(rt; has_name(alloc, &sum, "x")?);
     let renamed = Expr::Alias(sum, Name::new(alloc, "y")?);
     assert!(rt; has_name(alloc, &renamed, "y")?);

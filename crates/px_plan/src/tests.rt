@@ -10,6 +10,7 @@ use px_column::{
 };
 use px_frame::{Field, Schema};
 use std::alloc::Global;
+use std::rc::Rc;
 use std::test::Fail;
 
 // A type, or why there is none.
@@ -121,20 +122,24 @@ enum Word {
     Ordered,
 }
 
-fn pop(alloc: Global, stack: &mut Vec<Expr>) -> Px<Box<Expr>> {
-    match stack.pop() {
-        None => Err(PxError::OutOfBounds),
-        Some(expr) => Ok(Box::new(alloc, expr)?),
-    }
+fn pop_one(stack: &mut Vec<Expr>) -> Px<Expr> {
+    stack.pop().ok_or(PxError::OutOfBounds)
+}
+
+fn pop(alloc: Global, stack: &mut Vec<Expr>) -> Px<Rc<Expr>> {
+    let expr = pop_one(stack)?;
+    Ok(Rc::new(alloc, expr)?)
 }
 
 // The last `count` expressions.
 fn pop_list(alloc: Global, stack: &mut Vec<Expr>, count: usize) -> Px<Exprs> {
     let mut items = Vec::new(alloc);
     for _ in 0..count {
-        items.insert(0, Box::into_inner(pop(alloc, stack)?))?;
+        items.insert(0, pop_one(stack)?)?;
     }
-    Ok(Exprs { items })
+    Ok(Exprs {
+        items: Rc::new(alloc, items)?,
+    })
 }
 
 fn leaf(alloc: Global, word: Word) -> Px<Expr> {
@@ -169,7 +174,7 @@ fn range(dtype: DataType) -> Expr {
     })
 }
 
-fn reduced(method: GroupByMethod, input: Box<Expr>) -> Expr {
+fn reduced(method: GroupByMethod, input: Rc<Expr>) -> Expr {
     Expr::Agg(match method {
         GroupByMethod::Min => AggExpr::Min(input),
         GroupByMethod::Max => AggExpr::Max(input),
@@ -189,7 +194,7 @@ fn options() -> SortOptions {
     }
 }
 
-fn cast(expr: Box<Expr>, dtype: DataType) -> Expr {
+fn cast(expr: Rc<Expr>, dtype: DataType) -> Expr {
     Expr::Cast {
         expr,
         dtype,
@@ -318,7 +323,7 @@ fn built(alloc: Global, words: &[Word]) -> Px<Expr> {
         let next = made(alloc, &mut stack, *word)?;
         stack.push(next)?;
     }
-    Ok(Box::into_inner(pop(alloc, &mut stack)?))
+    pop_one(&mut stack)
 }
 
 // Whether this is the type, or the refusal, on the frame and on groups.

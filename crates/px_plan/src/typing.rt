@@ -23,6 +23,7 @@ use px_column::{DataType, GroupByMethod, Px, SortOptions};
 use px_expression::{AggExpr, Context, Expr, Exprs, FunctionExpr};
 use px_frame::Schema;
 use std::alloc::Global;
+use std::rc::Rc;
 use typed::Typed;
 
 /// The type of an expression's values over a schema, in a context (polars `AExpr::get_dtype`). The
@@ -170,7 +171,7 @@ fn typed_all(alloc: Global, exprs: &Exprs, scope: &Schema, context: Context) -> 
     ensures { AnswersBy (λ v. all_facts_of v.items) result (all_facts_in (trees exprs.now) scope.now context) }
 {
     let mut items = Vec::new(alloc);
-    for expr in &exprs.items {
+    for expr in exprs.items.iter() {
         items.push(typed_expr(alloc, expr, scope, context)?)?;
     }
     Ok(items)
@@ -179,7 +180,7 @@ fn typed_all(alloc: Global, exprs: &Exprs, scope: &Schema, context: Context) -> 
 #[cycle(typing)]
 fn typed_order(
     alloc: Global,
-    order: &Option<(Box<Expr>, SortOptions)>,
+    order: &Option<(Rc<Expr>, SortOptions)>,
     scope: &Schema,
     context: Context,
 ) -> Px<Option<Typed>>

@@ -17,6 +17,7 @@ use crate::document::literal::{read_integers, read_literal, read_series};
 use px_plan::{AggExpr, Expr};
 use serde_json::Value;
 use std::alloc::Global;
+use std::rc::Rc;
 
 /// At most this many expressions stand inside one another.
 const LEVELS: u32 = 128;
@@ -56,7 +57,7 @@ fn read_alias(alloc: Global, levels: u32, value: &Value) -> Result<Expr, Documen
     };
     let input = read_within(alloc, levels, input)?;
     let name = read_text(alloc, name)?;
-    Ok(Expr::Alias(Box::new(alloc, input)?, name))
+    Ok(Expr::Alias(Rc::new(alloc, input)?, name))
 }
 
 /// The sum of an expression: `["Sum", e]`.
@@ -71,7 +72,7 @@ fn read_reduction(alloc: Global, levels: u32, value: &Value) -> Result<Expr, Doc
         return Err(DocumentFault::BadDocument);
     }
     let input = read_within(alloc, levels, input)?;
-    Ok(Expr::Agg(AggExpr::Sum(Box::new(alloc, input)?)))
+    Ok(Expr::Agg(AggExpr::Sum(Rc::new(alloc, input)?)))
 }
 
 /// The expression that stands under this key.

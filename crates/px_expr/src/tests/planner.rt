@@ -262,11 +262,11 @@ fn nothing_is_noted_at_first(rt: HostRuntime) -> Result<(), Fail> {
 #[test]
 fn other_kinds_have_no_nodes(rt: HostRuntime) -> Result<(), Fail> {
     let alloc = rt.alloc();
-    let sum = Expr::Agg(AggExpr::Sum(Box::new(alloc, Expr::Len)?));
+    let sum = Expr::Agg(AggExpr::Sum(Rc::new(alloc, Expr::Len)?));
     assert!(rt; is_built(&sum));
-    let max = Expr::Agg(AggExpr::Max(Box::new(alloc, Expr::Len)?));
+    let max = Expr::Agg(AggExpr::Max(Rc::new(alloc, Expr::Len)?));
     assert!(rt; !is_built(&max));
-    let above = Expr::Alias(Box::new(alloc, max)?, Name::new(alloc, "z")?);
+    let above = Expr::Alias(Rc::new(alloc, max)?, Name::new(alloc, "z")?);
     assert!(rt; !is_built(&above));
     Ok(())
 }

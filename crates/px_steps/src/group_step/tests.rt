@@ -34,11 +34,11 @@ fn column(alloc: Global, name: &str) -> Px<Expr> {
 }
 
 fn sum(alloc: Global, expr: Expr) -> Px<Expr> {
-    Ok(Expr::Agg(AggExpr::Sum(Box::new(alloc, expr)?)))
+    Ok(Expr::Agg(AggExpr::Sum(Rc::new(alloc, expr)?)))
 }
 
 fn alias(alloc: Global, expr: Expr, name: &str) -> Px<Expr> {
-    Ok(Expr::Alias(Box::new(alloc, expr)?, Name::new(alloc, name)?))
+    Ok(Expr::Alias(Rc::new(alloc, expr)?, Name::new(alloc, name)?))
 }
 
 fn number(value: i64) -> Expr {
