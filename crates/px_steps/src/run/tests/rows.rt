@@ -27,6 +27,9 @@ pub(super) fn check(alloc: Global, document: &str, status: Status, text: &str) -
     let mut source = source_of(alloc, document)?;
     let mut sink = MemorySink::new(alloc, 1000, 10, Vec::new(alloc))?;
     let told = ran(alloc, "run", &mut source, &mut sink)?;
+    if told == Status::OutOfMemory && sink.bytes().is_empty() {
+        return Err(Fail::from("memory was wanting, and nothing was written"));
+    }
     if told != status {
         return Err(Fail::from("the run tells another status"));
     }
