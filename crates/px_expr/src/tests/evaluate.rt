@@ -10,7 +10,7 @@ use px_column::{
     ValueRef,
 };
 use px_frame::{DataFrame, Field, Schema, SchemaRef};
-use px_plan::{Expr, LiteralValue};
+use px_plan::{Arena, Context, Expr, ExprIR, LiteralValue, fits_arena, to_arena};
 use px_window::ExecutionState;
 use std::alloc::Global;
 use std::marker::Brand;
@@ -64,13 +64,33 @@ fn sum_node(alloc: Global, input: PhysExpr) -> Px<PhysExpr> {
     Ok(PhysExpr::Aggregation(node))
 }
 
-// The literal 5 under an alias.
-fn aliased_five(alloc: Global) -> Px<PhysExpr> {
-    let value = LiteralValue::Int64(5);
-    let expr = Expr::Literal(LiteralValue::Int64(5));
-    let input = PhysExpr::Literal(LiteralExpr::new(value, Expr::Literal(LiteralValue::Int64(5))));
-    let name = Name::new(alloc, "t")?;
-    Ok(PhysExpr::Alias(AliasExpr::new(Box::new(alloc, input)?, name, expr)))
+// The literal 5 under so many aliases `t`.
+fn five_under(alloc: Global, aliases: u32) -> Px<Expr> {
+    let mut expr = Expr::Literal(LiteralValue::Int64(5));
+    for _ in 0..aliases {
+        expr = Expr::Alias(Rc::new(alloc, expr)?, Name::new(alloc, "t")?);
+    }
+    Ok(expr)
+}
+
+// The node that is planned for the literal 5 under so many aliases.
+fn aliased_five(alloc: Global, aliases: u32) -> Px<PhysExpr> {
+    let expr = five_under(alloc, aliases)?;
+    let mut arena = Arena::new(alloc)?;
+    if !is_built(&expr) || !fits_arena(&expr, &arena) {
+        return Err(PxError::OutOfBounds);
+    }
+    let expr_ir = ExprIR::new(to_arena(alloc, &expr, &mut arena)?, None);
+    let schema = scope(alloc, "x")?;
+    let mut noted = ExpressionConversionState::new(0);
+    create_physical_expr(
+        alloc,
+        &expr_ir,
+        Context::Default,
+        &arena,
+        &schema,
+        &mut noted,
+    )
 }
 
 fn counted<L: Ledger, M: Ledger>(
@@ -202,11 +222,20 @@ fn a_literal_has_its_value_without_a_frame(rt: HostRuntime) -> Result<(), Fail> 
     assert!(rt; inline.map_or(false, |column| holds(&column, "literal", &[5])));
     let range = range_node(alloc, 0, 3, DataType::Int64)?;
     assert!(rt; range.evaluate_inline(alloc)?.is_none());
-    let aliased = aliased_five(alloc)?;
+    let aliased = aliased_five(alloc, 1)?;
     let inline = aliased.evaluate_inline_impl(alloc, 1)?;
     assert!(rt; inline.map_or(false, |column| holds(&column, "t", &[5])));
     assert!(rt; aliased.evaluate_inline_impl(alloc, 0)?.is_none());
     assert!(rt; aliased.is_literal());
+    Ok(())
+}
+
+#[test]
+fn under_five_aliases_a_literal_has_no_value_without_a_frame(rt: HostRuntime) -> Result<(), Fail> {
+    let alloc = rt.alloc();
+    let inline = aliased_five(alloc, 4)?.evaluate_inline(alloc)?;
+    assert!(rt; inline.map_or(false, |column| holds(&column, "t", &[5])));
+    assert!(rt; aliased_five(alloc, 5)?.evaluate_inline(alloc)?.is_none());
     Ok(())
 }
 
@@ -221,7 +250,7 @@ fn a_field_and_the_live_columns(rt: HostRuntime) -> Result<(), Fail> {
     assert!(rt; matches!(field.dtype, DataType::Int64));
     let y = column_node(alloc, "y", scope(alloc, "x")?)?;
     assert!(rt; matches!(y.to_field(alloc, &schema), Err(PxError::ColumnNotFound(_))));
-    let aliased = aliased_five(alloc)?;
+    let aliased = aliased_five(alloc, 1)?;
     assert_eq!(rt; aliased.to_field(alloc, &schema)?.name.as_str(), "t");
     let mut live = IndexSet::new(alloc);
     sum.collect_live_columns(alloc, &mut live)?;
