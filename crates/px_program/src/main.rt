@@ -1,16 +1,18 @@
 //! The program `px`: `px run < document.json` writes the frame that a document's steps make.
 #![tactic(auto)]
 
-ghost use Rattle.std.specs.Prelude.{◌≡◌, ◌<◌, ◌↔◌, map, string_bytes};
+ghost use Rattle.std.specs.Prelude.{◌≡◌, ◌<◌, ◌↔◌, ◌⊎◌, map, string_bytes};
+ghost use Rattle.std.specs.IoError.{error_kind};
 ghost use Rattle.px_steps.specs.Run.{IsCommand};
 
 use px_column::Steps;
 use px_steps::run::run;
 use px_steps::{Status, StdinSource, StdoutSink};
+use std::env;
+use std::io::{self, ErrorKind};
 use std::marker::Brand;
 use std::process::ExitCode;
 use std::sync::ledger::{Blank, Ledger};
-use std::{env, io};
 
 // The process's words after the program's name.
 fn read_words(rt: &HostRuntime) -> io::Result<Vec<String>> {
@@ -48,9 +50,12 @@ fn run_words<L: Ledger, M: Ledger>(
 }
 
 // How the program ends where its words cannot be read.
-fn unread(error: &io::Error) -> Status {
+fn unread(error: &io::Error) -> Status
+    ensures memory { (result ≡ Status.OutOfMemory) ↔ (error_kind error.now ≡ ErrorKind.OutOfMemory) }
+    ensures told { (result ≡ Status.OutOfMemory) ⊎ (result ≡ Status.Usage) }
+{
     match error.kind() {
-        io::ErrorKind::OutOfMemory => Status::OutOfMemory,
+        ErrorKind::OutOfMemory => Status::OutOfMemory,
         _ => Status::Usage,
     }
 }
