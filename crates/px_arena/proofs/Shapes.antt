@@ -5,13 +5,13 @@ use Rattle.std.specs.declared.rc.Rc.{Rc}
 use Rattle.px_value.specs.declared.operator.Operator.{Operator}
 use Rattle.px_value.specs.declared.sort_options.SortMultipleOptions.{SortMultipleOptions}
 use Rattle.px_value.specs.declared.sort_options.SortOptions.{SortOptions}
-use Rattle.px_expression.specs.Tree.{Tree, Trees, binary, ternary, filter, slice, gather, sort_by, window}
-use Rattle.px_expression.specs.View.{tree, trees, order_tree, agg_step, tree_step, trees_step, mapping_of}
-use Rattle.px_expression.specs.declared.expr.AggExpr.TheOpen.{Expr-F}
-use Rattle.px_expression.specs.declared.expr.Expr.{Expr, fold-roll-Expr}
-use Rattle.px_expression.specs.declared.expr.Expr.TheVariants.{BinaryExpr, Ternary, Filter, Slice, Gather, SortBy, Window, rolls-BinaryExpr, rolls-Ternary, rolls-Filter, rolls-Slice, rolls-Gather, rolls-SortBy, rolls-Window}
-use Rattle.px_expression.specs.declared.expr.Exprs.{Exprs}
-use Rattle.px_expression.specs.declared.window.WindowType.{WindowType}
+use Rattle.px_tree.specs.Tree.{Tree, Trees, binary, ternary, filter, slice, gather, sort_by, window}
+use Rattle.px_tree.specs.View.{tree, trees, order_tree, agg_step, tree_step, trees_step, mapping_of}
+use Rattle.px_tree.specs.declared.expr.AggExpr.TheOpen.{Expr-F}
+use Rattle.px_tree.specs.declared.expr.Expr.{Expr, fold-roll-Expr}
+use Rattle.px_tree.specs.declared.expr.Expr.TheVariants.{BinaryExpr, Ternary, Filter, Slice, Gather, SortBy, Window, rolls-BinaryExpr, rolls-Ternary, rolls-Filter, rolls-Slice, rolls-Gather, rolls-SortBy, rolls-Window}
+use Rattle.px_tree.specs.declared.expr.Exprs.{Exprs}
+use Rattle.px_tree.specs.declared.window.WindowType.{WindowType}
 
 pub tree-BinaryExpr : (x : Rc Expr Global) (op : Operator) (y : Rc Expr Global) → tree (BinaryExpr x op y) ≡ binary (tree x.value) op (tree y.value)
 tree-BinaryExpr x op y = ap tree (sym (rolls-BinaryExpr x op y)) ∙ fold-roll-Expr Tree Tree Trees agg_step tree_step trees_step (Expr-F.BinaryExpr x op y)

@@ -5,8 +5,8 @@ use Rattle.std.proofs.lemmas.List.{get_or_append_left}
 use Rattle.std.proofs.Math.Seq.{get_or-append_seam}
 use Rattle.std.proofs.lemmas.Bool.Decides.{nat_tests}
 use Rattle.px_value.specs.declared.sort_options.SortOptions.{SortOptions}
-use Rattle.px_expression.specs.Tree as t
-use Rattle.px_expression.specs.Tree.{Tree, Trees, Order, trees_of, ordered}
+use Rattle.px_tree.specs.Tree as t
+use Rattle.px_tree.specs.Tree.{Tree, Trees, Order, trees_of, ordered}
 use Rattle.px_arena.specs.Arena.{tree_at, trees_at, order_at, agg_input, agg_method, node_tree, is_below, all_below, order_below, children_below, grow, trees_in, IsArena}
 use Rattle.px_arena.specs.declared.node.AExpr.{AExpr}
 use Rattle.px_arena.specs.declared.node.AExpr.TheVariants.{Column, Literal, Alias, BinaryExpr, Ternary, Cast, Function, Explode, Filter, Slice, Gather, Sort, SortBy, Agg, Len, Window}
@@ -60,7 +60,7 @@ node_same n ts us (Alias e m) h b = ap (λ x. t.alias x m) (h e b)
 node_same n ts us (BinaryExpr x op y) h b = two_same n ts us x y (λ p q. t.binary p op q) h b
 node_same n ts us (Ternary x y z) h b = three_same n ts us x y z t.ternary h b
 node_same n ts us (Cast e dtype options) h b = let p = h e b in cc
-node_same n ts us (Function es f) h b = ap (λ xs. t.function xs f) (trees_same n ts us es.items h b)
+node_same n ts us (Function es f) h b = ap (λ xs. t.function xs (t.by_name f)) (trees_same n ts us es.items h b)
 node_same n ts us (Explode e) h b = let p = h e b in cc
 node_same n ts us (Filter x y) h b = two_same n ts us x y t.filter h b
 node_same n ts us (Slice x y z) h b = three_same n ts us x y z t.slice h b

@@ -3,9 +3,9 @@ use Rattle.std.proofs.Common.{◌≡◌, ℕ, zero, suc, ◌<◌, true, List, []
 use Rattle.std.proofs.lemmas.Bool.Decides.{nat_tests}
 use Rattle.px_arena.proofs.Trees.{and_left, and_right}
 use Rattle.px_arena.specs.Arena.{is_below, all_below}
-use Rattle.px_expression.specs.Tree.{Tree, Trees, trees_of}
-use Rattle.px_expression.specs.View.{tree, trees, agg_step, tree_step, trees_step}
-use Rattle.px_expression.specs.declared.expr.Exprs.{Exprs, out-Exprs, fold_out-Exprs}
+use Rattle.px_tree.specs.Tree.{Tree, Trees, trees_of}
+use Rattle.px_tree.specs.View.{tree, trees, agg_step, tree_step, trees_step}
+use Rattle.px_tree.specs.declared.expr.Exprs.{Exprs, out-Exprs, fold_out-Exprs}
 use Rattle.px_arena.specs.declared.node.Node.{Node}
 
 pub trees_is : (es : Exprs) → trees es ≡ trees_of (map tree (out-Exprs es).items.value.items)

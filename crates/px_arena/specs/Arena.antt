@@ -4,10 +4,9 @@ use Rattle.px_value.specs.KindView.{kind_of}
 use Rattle.px_value.specs.declared.method.GroupByMethod.{GroupByMethod}
 use Rattle.px_value.specs.declared.method.GroupByMethod.TheVariants as method
 use Rattle.px_value.specs.declared.sort_options.SortOptions.{SortOptions}
-use Rattle.px_expression.specs.Tree as t
-use Rattle.px_expression.specs.Tree.{Tree, Trees, Order, trees_of, no_trees, one_tree, no_order, ordered}
-use Rattle.px_expression.specs.View.{literal_of, mapping_of}
-use Rattle.px_expression.specs.declared.function.FunctionExpr.TheVariants as function
+use Rattle.px_tree.specs.Tree as t
+use Rattle.px_tree.specs.Tree.{Tree, Trees, Order, trees_of, no_trees, one_tree, no_order, ordered}
+use Rattle.px_tree.specs.View.{literal_of, mapping_of}
 use Rattle.px_arena.specs.declared.node.AExpr.{AExpr}
 use Rattle.px_arena.specs.declared.node.AExpr.TheVariants as node
 use Rattle.px_arena.specs.declared.node.IRAggExpr.{IRAggExpr}
@@ -61,8 +60,8 @@ node_tree ts (node.Alias e n) = t.alias (tree_at ts e) n
 node_tree ts (node.BinaryExpr l op r) = t.binary (tree_at ts l) op (tree_at ts r)
 node_tree ts (node.Ternary p a b) = t.ternary (tree_at ts p) (tree_at ts a) (tree_at ts b)
 node_tree ts (node.Cast e dtype options) = t.cast (tree_at ts e) (kind_of dtype) options
-node_tree ts (node.Function es f) = t.function (trees_at ts es.items) f
-node_tree ts (node.Explode e) = t.function (one_tree (tree_at ts e) no_trees) function.Explode
+node_tree ts (node.Function es f) = t.function (trees_at ts es.items) (t.by_name f)
+node_tree ts (node.Explode e) = t.function (one_tree (tree_at ts e) no_trees) t.as_explode
 node_tree ts (node.Filter e by) = t.filter (tree_at ts e) (tree_at ts by)
 node_tree ts (node.Slice e offset length) = t.slice (tree_at ts e) (tree_at ts offset) (tree_at ts length)
 node_tree ts (node.Gather e idx one) = t.gather (tree_at ts e) (tree_at ts idx) one

@@ -17,8 +17,8 @@ pub struct Arena {
 impl Model for Arena {
     ghost use Rattle.std.specs.Prelude.{List};
     ghost use Rattle.std.specs.Coded.{coded_list};
-    ghost use Rattle.px_expression.specs.Tree.{Tree};
-    ghost use Rattle.px_expression.specs.TreeCode.{coded_tree};
+    ghost use Rattle.px_tree.specs.Tree.{Tree};
+    ghost use Rattle.px_tree.specs.TreeCode.{coded_tree};
 
     ghost Value = { List Tree };
 

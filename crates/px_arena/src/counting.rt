@@ -1,11 +1,11 @@
 //! Whether an expression's nodes have room in an arena.
 ghost use Rattle.std.specs.Prelude.{◌≡◌, ◌+◌, ◌^◌, ◌<◌, ◌↔◌, IsTrue, IsNone, IfSome, length};
-ghost use Rattle.px_expression.specs.Nodes.{nodes_of, all_nodes_of, order_nodes_of};
-ghost use Rattle.px_expression.specs.View.{tree, trees, agg_tree, order_tree};
+ghost use Rattle.px_tree.specs.Nodes.{nodes_of, all_nodes_of, order_nodes_of};
+ghost use Rattle.px_tree.specs.View.{tree, trees, agg_tree, order_tree};
 
 use crate::arena::Arena;
 use px_column::SortOptions;
-use px_expression::{AggExpr, Expr, Exprs};
+use px_tree::{AggExpr, Expr, Exprs};
 use std::rc::Rc;
 
 /// Whether an arena has room for all nodes of an expression, as `to_arena` requires.

@@ -9,8 +9,6 @@ mod lowering;
 mod node;
 mod rebuilding;
 mod scalar;
-#[cfg(test)]
-mod tests;
 
 pub use arena::Arena;
 pub use counting::fits_arena;

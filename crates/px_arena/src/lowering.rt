@@ -3,13 +3,13 @@ ghost use Rattle.std.specs.Prelude.{◌≡◌, ◌+◌, ◌^◌, ◌<◌, ◌++�
 ghost use Rattle.px_value.specs.Answer.{Answers, AnswersBy};
 ghost use Rattle.px_arena.specs.Adding.{AddsFront};
 ghost use Rattle.px_arena.specs.Arena.{tree_at, trees_at, order_at, agg_at, node_tree, children_below, is_below, all_below, order_below, agg_input};
-ghost use Rattle.px_expression.specs.Nodes.{nodes_of, all_nodes_of, order_nodes_of, postorder, all_postorder, order_postorder, children_postorder};
-ghost use Rattle.px_expression.specs.View.{tree, trees, agg_tree, order_tree};
+ghost use Rattle.px_tree.specs.Nodes.{nodes_of, all_nodes_of, order_nodes_of, postorder, all_postorder, order_postorder, children_postorder};
+ghost use Rattle.px_tree.specs.View.{tree, trees, agg_tree, order_tree};
 
 use crate::arena::Arena;
 use crate::node::{AExpr, IRAggExpr, Node};
 use px_column::{Px, SortOptions};
-use px_expression::{AggExpr, Expr, Exprs};
+use px_tree::{AggExpr, Expr, Exprs};
 use std::alloc::Global;
 use std::rc::Rc;
 

@@ -3,7 +3,7 @@ ghost use Rattle.std.specs.Prelude.{◌≡◌};
 ghost use Rattle.px_arena.specs.Arena.{agg_input};
 
 use px_column::{CastOptions, DataType, Name, Operator, SortMultipleOptions, SortOptions};
-use px_expression::{FunctionExpr, LiteralValue, WindowType};
+use px_tree::{FunctionExpr, LiteralValue, WindowType};
 
 /// The place of a node in an arena (polars `Node`).
 #[derive(Clone, Copy, Debug, PartialEq, Eq)]

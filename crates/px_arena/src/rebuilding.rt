@@ -2,12 +2,12 @@
 ghost use Rattle.std.specs.Prelude.{◌≡◌, ◌<◌, ◌≤◌, Ok, length, true};
 ghost use Rattle.px_value.specs.Answer.{AnswersBy};
 ghost use Rattle.px_arena.specs.Arena.{tree_at, trees_at, order_at, agg_at, all_below, order_below, agg_input, is_below};
-ghost use Rattle.px_expression.specs.View.{tree, trees, agg_tree, order_tree};
+ghost use Rattle.px_tree.specs.View.{tree, trees, agg_tree, order_tree};
 
 use crate::arena::Arena;
 use crate::node::{AExpr, IRAggExpr, Node};
 use px_column::{Px, SortOptions};
-use px_expression::{AggExpr, Expr, Exprs};
+use px_tree::{AggExpr, Expr, Exprs};
 use std::alloc::Global;
 use std::rc::Rc;
 

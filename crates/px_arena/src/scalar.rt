@@ -1,12 +1,12 @@
 //! Whether a node of an arena has one value.
 ghost use Rattle.std.specs.Prelude.{◌≡◌, ◌<◌, ◌≤◌, length, true};
 ghost use Rattle.px_arena.specs.Arena.{tree_at, trees_at, all_below};
-ghost use Rattle.px_expression.specs.Shape.{is_unit, is_unit_first, are_units};
-ghost use Rattle.px_expression.specs.Tree.{function as applied};
+ghost use Rattle.px_tree.specs.Shape.{is_unit, is_unit_first, are_units};
+ghost use Rattle.px_tree.specs.Tree.{by_name, function as applied};
 
 use crate::arena::Arena;
 use crate::node::{AExpr, IRAggExpr, Node};
-use px_expression::FunctionExpr;
+use px_tree::FunctionExpr;
 
 /// Whether a node's expression has one value whatever the frame, and else a list of rows (polars
 /// `is_scalar_ae`).
@@ -52,7 +52,7 @@ pub fn is_scalar_ae(node: Node, arena: &Arena) -> bool
 fn is_scalar_function(function: FunctionExpr, input: &[Node], before: u32, arena: &Arena) -> bool
     requires within { before ≤ length arena.now }
     requires below { all_below before input.now ≡ true }
-    ensures { result ≡ is_unit (applied (trees_at arena.now input.now) function) }
+    ensures { result ≡ is_unit (applied (trees_at arena.now input.now) (by_name function)) }
 {
     match function {
         FunctionExpr::IsNull => is_first_scalar(input, before, arena),

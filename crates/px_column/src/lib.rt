@@ -5,8 +5,6 @@ mod column;
 mod kernels;
 mod repeat;
 mod row_key;
-#[cfg(test)]
-mod tests;
 
 pub use column::Column;
 pub use px_operation::{

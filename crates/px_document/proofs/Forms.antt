@@ -13,18 +13,18 @@ use Rattle.std.proofs.lemmas.Slice.Eq.{bytes_eq-Decides}
 use Rattle.serde_json.specs.Data.{Data, null, boolean, number, string, array, object, Members, no_members, member}
 use Rattle.serde_json.specs.Find.{as_null, as_bool, as_str, get}
 use Rattle.px_value.specs.Option.{◌>>=◌, each}
-use Rattle.px_expression.specs.Tree.{Tree, Literal, column, literal, alias, binary, ternary, cast, function, filter, slice, gather, sort, sort_by, agg, len, window, series, one_tree, no_trees, trees_of}
+use Rattle.px_tree.specs.Tree.{Tree, by_name, as_explode, Literal, column, literal, alias, binary, ternary, cast, function, filter, slice, gather, sort, sort_by, agg, len, window, series, one_tree, no_trees, trees_of}
 use Rattle.px_value.specs.declared.method.GroupByMethod.{GroupByMethod}
 use Rattle.px_value.specs.declared.method.GroupByMethod.TheVariants.{Min, Max, Sum, First, Last, NUnique, Count, Implode}
-use Rattle.px_expression.specs.declared.function.FunctionExpr.TheVariants.{Explode, IsBetween, IsIn, Shift}
+use Rattle.px_tree.specs.declared.function.FunctionExpr.TheVariants.{IsBetween, IsIn, Shift}
 use Rattle.px_document.specs.Document.{kind_named, column_of}
 use Rattle.px_document.specs.ExprForm.{expr_within, expr_form, reduction_named, operator_named, function_named, closed_named, int64_of, options_of, literal_parts, range_parts, alias_parts, binary_parts, ternary_parts, cast_parts, function_parts, cast_named, flags_of, mapping_named, is_text, filter_parts, slice_parts, gather_parts, sort_parts, sort_by_parts, reduction_parts, window_parts, order_of}
 use Rattle.px_document.specs.Form.{field, fields, items, only_member, single_member, member_count, only, ReadsBy}
-use Rattle.px_expression.specs.View.{tree}
-use Rattle.px_expression.specs.declared.expr.Expr.{Expr}
+use Rattle.px_tree.specs.View.{tree}
+use Rattle.px_tree.specs.declared.expr.Expr.{Expr}
 use Rattle.px_document.specs.declared.document.fault.DocumentFault.{DocumentFault}
 use Rattle.px_document.specs.Readable.{only_if}
-use Rattle.px_expr.specs.Built.{is_built_tree}
+use Rattle.px_tree.specs.Built.{is_built_tree}
 use Rattle.px_document.proofs.OnlyIf.{NonePasses, only_some, only_none, none_there, none_some, none_of_two, none_of, none_then, none_map, none_if, only_map}
 
 -- what is read of what there is
@@ -110,14 +110,14 @@ module _ (E : Data → Option Tree) where
   function_none : (ds : List Data) → Untaken (function_parts E ds)
   function_none [] = nothing
   function_none (a ∷ []) = nothing
-  function_none (f ∷ e ∷ []) = after (as_str f >>= function_named) _ (λ g. after (E e) _ (λ x. other (function (one_tree x no_trees) g) refl))
+  function_none (f ∷ e ∷ []) = after (as_str f >>= function_named) _ (λ g. after (E e) _ (λ x. other (function (one_tree x no_trees) (by_name g)) refl))
   function_none (f ∷ a ∷ b ∷ []) =
-      none_if (is_text (codes "IsIn") f) (after (E a) _ (λ x. after (E b) _ (λ y. other (function (one_tree x (one_tree y no_trees)) IsIn) refl)))
-      (none_if (is_text (codes "Shift") f) (after (int64_of a) _ (λ n. after (E b) _ (λ x. other (function (one_tree x no_trees) (Shift n)) refl))) nothing)
+      none_if (is_text (codes "IsIn") f) (after (E a) _ (λ x. after (E b) _ (λ y. other (function (one_tree x (one_tree y no_trees)) (by_name IsIn)) refl)))
+      (none_if (is_text (codes "Shift") f) (after (int64_of a) _ (λ n. after (E b) _ (λ x. other (function (one_tree x no_trees) (by_name (Shift n))) refl))) nothing)
   function_none (a ∷ b ∷ c ∷ d ∷ []) = nothing
   function_none (f ∷ c ∷ a ∷ b ∷ d ∷ []) =
       none_if (is_text (codes "IsBetween") f)
-      (after (as_str c >>= closed_named) _ (λ n. after (E a) _ (λ x. after (E b) _ (λ y. after (E d) _ (λ z. other (function (one_tree x (one_tree y (one_tree z no_trees))) (IsBetween n)) refl)))))
+      (after (as_str c >>= closed_named) _ (λ n. after (E a) _ (λ x. after (E b) _ (λ y. after (E d) _ (λ z. other (function (one_tree x (one_tree y (one_tree z no_trees))) (by_name (IsBetween n))) refl)))))
       nothing
   function_none (a ∷ b ∷ c ∷ d ∷ e ∷ f ∷ ds) = nothing
 
@@ -176,7 +176,7 @@ module _ (E : Data → Option Tree) where
       (none_of_two (after (field (codes "when") d >>= items) (ternary_parts E) ternary_none)
       (none_of_two (after (field (codes "cast") d >>= items) (cast_parts E) cast_none)
       (none_of_two (after (field (codes "fn") d >>= items) (function_parts E) function_none)
-      (none_of_two (none_map is_built_tree (field (codes "explode") d >>= E) (λ e. function (one_tree e no_trees) Explode) (λ e. refl))
+      (none_of_two (none_map is_built_tree (field (codes "explode") d >>= E) (λ e. function (one_tree e no_trees) as_explode) (λ e. refl))
       (none_of_two (after (field (codes "filter") d >>= items) (filter_parts E) filter_none)
       (none_of_two (after (field (codes "slice") d >>= items) (slice_parts E) slice_none)
       (none_of_two (after (field (codes "gather") d >>= items) (gather_parts E) gather_none)

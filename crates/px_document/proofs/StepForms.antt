@@ -10,18 +10,18 @@ use Rattle.serde_json.specs.Data.{Data}
 use Rattle.serde_json.specs.Find.{as_null}
 use Rattle.px_value.specs.Option.{◌>>=◌, each}
 use Rattle.px_value.specs.Series.{Series}
-use Rattle.px_expression.specs.Tree.{Tree}
+use Rattle.px_tree.specs.Tree.{Tree}
 use Rattle.px_document.specs.Document.{Doc, column_of}
 use Rattle.px_document.specs.ExprForm.{expr_of}
 use Rattle.px_document.specs.Form.{ReadsBy, field, fields, items, only_member, single_member}
 use Rattle.px_document.specs.Readable.{is_readable_document, only_if}
-use Rattle.px_expr.specs.Built.{is_built_tree}
-use Rattle.px_document.specs.Built.{is_built}
-use Rattle.px_document.specs.Step.{PlainStep, select, filter, group}
+use Rattle.px_tree.specs.Built.{is_built_tree}
+use Rattle.px_tree.specs.Built.{is_built}
+use Rattle.px_tree.specs.Step.{PlainStep, select, filter, group}
 use Rattle.px_document.specs.StepForm.{chunk_length_of, chunks_of, group_parts, any_step_of, any_steps_of, any_document_parts}
-use Rattle.px_document.specs.Step.{step_view}
+use Rattle.px_tree.specs.Step.{step_view}
 use Rattle.px_document.specs.declared.document.fault.DocumentFault.{DocumentFault}
-use Rattle.px_document.specs.declared.step.Step.{Step}
+use Rattle.px_tree.specs.declared.step.Step.{Step}
 use Rattle.px_document.proofs.Forms.{member_is, field_none, field_other}
 use Rattle.px_document.proofs.OnlyIf.{NonePasses, none_of, none_of_two, none_map, only_each}
 

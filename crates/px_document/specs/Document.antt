@@ -9,7 +9,7 @@ use Rattle.px_value.specs.Kind.{Kind, booleans, int8s, int16s, int32s, int64s, u
 use Rattle.px_value.specs.Series.{Series}
 use Rattle.px_value.specs.Option.{◌>>=◌, each}
 use Rattle.px_document.specs.Form.{items, fields}
-use Rattle.px_document.specs.Step.{PlainStep, step_view}
+use Rattle.px_tree.specs.Step.{PlainStep, step_view}
 use Rattle.px_document.specs.declared.document.parsed.Parsed.{Parsed}
 
 -- the type of a name, where it is no type of lists

@@ -17,11 +17,11 @@ use Rattle.px_value.specs.declared.operator.Operator.{Operator}
 use Rattle.px_value.specs.declared.operator.Operator.TheVariants.{Eq, EqValidity, NotEq, NotEqValidity, Lt, LtEq, Gt, GtEq, Plus, Minus, Multiply, Divide, FloorDivide, Modulus, And, Or, Xor, LogicalAnd, LogicalOr}
 use Rattle.px_value.specs.declared.sort_options.SortMultipleOptions.{SortMultipleOptions}
 use Rattle.px_value.specs.declared.sort_options.SortOptions.{SortOptions}
-use Rattle.px_expression.specs.Tree.{Tree, Order, Literal, single, range, series, trees_of, no_trees, one_tree, no_order, ordered, column, literal, alias, binary, ternary, cast, function, filter, slice, gather, sort, sort_by, agg, len, window}
-use Rattle.px_expression.specs.declared.function.FunctionExpr.{FunctionExpr}
-use Rattle.px_expression.specs.declared.function.FunctionExpr.TheVariants.{IsNull, IsNotNull, Not, IsBetween, IsIn, Reverse, Shift, DropNulls, NullCount, Explode}
-use Rattle.px_expression.specs.declared.window.WindowMapping.{WindowMapping}
-use Rattle.px_expression.specs.declared.window.WindowMapping.TheVariants as mapping
+use Rattle.px_tree.specs.Tree.{Tree, by_name, as_explode, Order, Literal, single, range, series, trees_of, no_trees, one_tree, no_order, ordered, column, literal, alias, binary, ternary, cast, function, filter, slice, gather, sort, sort_by, agg, len, window}
+use Rattle.px_tree.specs.declared.function.FunctionExpr.{FunctionExpr}
+use Rattle.px_tree.specs.declared.function.FunctionExpr.TheVariants.{IsNull, IsNotNull, Not, IsBetween, IsIn, Reverse, Shift, DropNulls, NullCount}
+use Rattle.px_tree.specs.declared.window.WindowMapping.{WindowMapping}
+use Rattle.px_tree.specs.declared.window.WindowMapping.TheVariants as mapping
 use Rattle.px_document.specs.Document.{kind_named, place_of, column_of}
 use Rattle.px_document.specs.Form.{items, fields, field}
 
@@ -145,13 +145,13 @@ module _ (expr : Data → Option Tree) where
   two_inputs a b = do
     first ← expr a
     second ← expr b
-    Some (function (one_tree first (one_tree second no_trees)) IsIn)
+    Some (function (one_tree first (one_tree second no_trees)) (by_name IsIn))
 
   abbrev pub shift_of : Data → Data → Option Tree
   shift_of n e = do
     periods ← int64_of n
     input ← expr e
-    Some (function (one_tree input no_trees) (Shift periods))
+    Some (function (one_tree input no_trees) (by_name (Shift periods)))
 
   abbrev pub between_of : Data → Data → Data → Data → Option Tree
   between_of c a b d = do
@@ -159,14 +159,14 @@ module _ (expr : Data → Option Tree) where
     value ← expr a
     low ← expr b
     high ← expr d
-    Some (function (one_tree value (one_tree low (one_tree high no_trees))) (IsBetween ends))
+    Some (function (one_tree value (one_tree low (one_tree high no_trees))) (by_name (IsBetween ends)))
 
   -- the function's name, what it takes besides, and its inputs
   abbrev pub function_parts : List Data → Option Tree
   function_parts (f ∷ e ∷ []) = do
     function' ← as_str f >>= function_named
     input ← expr e
-    Some (function (one_tree input no_trees) function')
+    Some (function (one_tree input no_trees) (by_name function'))
   function_parts (f ∷ a ∷ b ∷ []) =
       if is_text (codes "IsIn") f then two_inputs a b
       else if is_text (codes "Shift") f then shift_of a b
@@ -259,7 +259,7 @@ module _ (expr : Data → Option Tree) where
       (option_or (field (codes "when") d >>= items >>= ternary_parts)
       (option_or (field (codes "cast") d >>= items >>= cast_parts)
       (option_or (field (codes "fn") d >>= items >>= function_parts)
-      (option_or (option_map (λ e. function (one_tree e no_trees) Explode) (field (codes "explode") d >>= expr))
+      (option_or (option_map (λ e. function (one_tree e no_trees) as_explode) (field (codes "explode") d >>= expr))
       (option_or (field (codes "filter") d >>= items >>= filter_parts)
       (option_or (field (codes "slice") d >>= items >>= slice_parts)
       (option_or (field (codes "gather") d >>= items >>= gather_parts)

@@ -1,12 +1,10 @@
 pub mod Text
 pub mod Label
 pub mod Form
-pub mod Step
 pub mod Document
 pub mod ExprForm
 pub mod StepForm
 pub mod Fault
-pub mod Built
 pub mod Readable
 pub mod DocumentText
 pub mod DocumentView

@@ -2,7 +2,7 @@
 use Rattle.std.specs.Prelude.{Bool, Option, Some, None, if◌then◌else◌}
 use Rattle.std.specs.List.{list_all}
 use Rattle.px_value.specs.Option.{◌>>=◌}
-use Rattle.px_document.specs.Built.{is_built}
+use Rattle.px_tree.specs.Built.{is_built}
 use Rattle.px_document.specs.Document.{Doc}
 
 -- what there is, where it passes the test

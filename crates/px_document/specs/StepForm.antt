@@ -7,7 +7,7 @@ use Rattle.px_value.specs.Option.{◌>>=◌, each}
 use Rattle.px_document.specs.Document.{Doc, column_of}
 use Rattle.px_document.specs.ExprForm.{expr_of}
 use Rattle.px_document.specs.Form.{items, fields, field}
-use Rattle.px_document.specs.Step.{PlainStep, select, filter, group}
+use Rattle.px_tree.specs.Step.{PlainStep, select, filter, group}
 
 -- a whole number below 2^32
 abbrev pub chunk_length_of : Data → Option ℕ

@@ -19,11 +19,9 @@ mod literal;
 mod parsed;
 mod place;
 mod step;
-#[cfg(test)]
-mod tests;
 mod type_name;
 
-use crate::step::Step;
+use px_tree::Step;
 use column::read_columns;
 pub use fault::DocumentFault;
 use fields::{items, two_fields};

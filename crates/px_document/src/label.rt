@@ -89,26 +89,3 @@ pub fn error_line(alloc: Global, fault: &PxError) -> Px<ByteString>
     out.push(b'\n')?;
     Ok(ByteString::from_vec(out))
 }
-
-#[cfg(test)]
-mod tests {
-    use super::*;
-    use std::test::Fail;
-
-    #[test]
-    fn names_the_column_the_reason_or_the_fault(rt: HostRuntime) -> Result<(), Fail> {
-        let alloc = rt.alloc();
-        let missing = PxError::ColumnNotFound(Name::new(alloc, "y\"")?);
-        let no_key = PxError::ComputeError(ComputeWhy::NoKey);
-        let line = error_line(alloc, &missing)?;
-        assert_eq!(rt;
-            line.as_slice(),
-            b"error: ColumnNotFound(\"y\\\"\")\n".as_slice()
-        );
-        let line = error_line(alloc, &no_key)?;
-        assert_eq!(rt; line.as_slice(), b"error: ComputeError(NoKey)\n".as_slice());
-        let line = error_line(alloc, &PxError::OutOfBounds)?;
-        assert_eq!(rt; line.as_slice(), b"error: OutOfBounds\n".as_slice());
-        Ok(())
-    }
-}

@@ -7,5 +7,3 @@ mod value;
 
 pub use frame::frame_text;
 
-#[cfg(test)]
-mod tests;

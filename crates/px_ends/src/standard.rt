@@ -96,26 +96,3 @@ impl<W: Write> Sink for StdoutSink<W> {
         }
     }
 }
-
-#[cfg(test)]
-mod tests {
-    use super::*;
-    use crate::transfer::{read_all, write_all};
-    use std::test::Fail;
-
-    #[test]
-    fn a_reader_is_read_to_its_end(rt: HostRuntime) -> Result<(), Fail> {
-        let mut source = StdinSource::new(b"bytes".as_slice());
-        let read = read_all(rt.alloc(), &mut source)?;
-        assert_eq!(rt; read.as_slice(), b"bytes".as_slice());
-        Ok(())
-    }
-
-    #[test]
-    fn a_writer_is_written_to(rt: HostRuntime) -> Result<(), Fail> {
-        let mut written = Vec::new(rt.alloc());
-        write_all(&mut StdoutSink::new(&mut written), b"bytes")?;
-        assert_eq!(rt; written.as_slice(), b"bytes".as_slice());
-        Ok(())
-    }
-}

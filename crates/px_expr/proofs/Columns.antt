@@ -6,15 +6,15 @@ use Rattle.px_value.specs.Series.{Series}
 use Rattle.px_frame.specs.External.{Frame, alone, scope_of, look_in}
 use Rattle.px_frame.specs.Frame.{look, has_name, name_eq, names_of, first_repeat, IsFrame}
 use Rattle.px_frame.specs.Schema.{FieldKind, column_field, has_field_name}
-use Rattle.px_expression.specs.Tree.{column}
+use Rattle.px_tree.specs.Tree.{column}
 use Rattle.px_value.specs.Answer.{Answers, AnswersBy}
 use Rattle.px_frame.specs.SchemaView.{field_kind}
 use Rattle.px_frame.specs.declared.schema.Field.{Field}
 use Rattle.px_value.specs.Kind.{Kind}
 use Rattle.px_value.specs.declared.error.PxError.{PxError}
 use Rattle.px_value.specs.declared.error.PxError.TheVariants.{ColumnNotFound, ShapeMismatch}
-use Rattle.px_expression.specs.Typing.{kind_of_name, refused_where}
-use Rattle.px_expression.specs.Value.{has_misfit}
+use Rattle.px_tree.specs.Typing.{kind_of_name, refused_where}
+use Rattle.px_tree.specs.Value.{has_misfit}
 use Rattle.px_expr.specs.Planned.{Planned, PlannedColumn, found_by}
 use Rattle.px_expr.specs.Live.{field_on}
 use Rattle.px_expr.specs.Value.{IsValue, IsOneOf, IsCause, causes_on, unfound_refusal}

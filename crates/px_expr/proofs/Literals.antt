@@ -11,10 +11,10 @@ use Rattle.px_value.specs.declared.error.PxError.TheVariants.{ColumnNotFound, Du
 use Rattle.px_value.specs.declared.error.InvalidWhy.TheVariants.{RangeType}
 use Rattle.px_value.specs.declared.error.ComputeWhy.TheVariants.{RangeBound, TooLong}
 use Rattle.px_frame.specs.External.{Frame}
-use Rattle.px_expression.specs.Node.{natural}
-use Rattle.px_expression.specs.Size.{size_on}
-use Rattle.px_expression.specs.Tree.{Literal, single, range, series, literal}
-use Rattle.px_expression.specs.Typing.{is_range_kind}
+use Rattle.px_tree.specs.Node.{natural}
+use Rattle.px_tree.specs.Size.{size_on}
+use Rattle.px_tree.specs.Tree.{Literal, single, range, series, literal}
+use Rattle.px_tree.specs.Typing.{is_range_kind}
 use Rattle.px_expr.specs.Literal.{literal_column, range_column, range_series}
 use Rattle.px_expr.specs.Planned.{Planned}
 use Rattle.px_expr.specs.Value.{IsCause}

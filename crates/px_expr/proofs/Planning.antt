@@ -10,9 +10,9 @@ use Rattle.px_value.specs.Result.{◌>>=◌}
 use Rattle.px_value.specs.declared.error.PxError.{PxError}
 use Rattle.px_value.specs.declared.error.PxError.TheVariants.{ColumnNotFound, Duplicate, InvalidOperation, ComputeError, OutOfBounds, ShapeMismatch, SchemaMismatch, OutOfMemory}
 use Rattle.px_arena.specs.Named.{NamedNode}
-use Rattle.px_expression.specs.Tree.{Tree}
-use Rattle.px_expression.specs.Typing.{Scope}
-use Rattle.px_expression.specs.declared.context.Context.{Context}
+use Rattle.px_tree.specs.Tree.{Tree}
+use Rattle.px_tree.specs.Typing.{Scope}
+use Rattle.px_tree.specs.declared.context.Context.{Context}
 use Rattle.px_expr.specs.Planned.{Planned}
 use Rattle.px_expr.specs.Plan.{noted_at, all_noted, plan_at, plans_in, NotesFront}
 use Rattle.px_expr.specs.declared.conversion.ExpressionConversionState.{ExpressionConversionState}

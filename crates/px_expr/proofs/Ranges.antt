@@ -9,12 +9,12 @@ use Rattle.px_value.specs.Answer.{Answers}
 use Rattle.px_column.specs.Column.{made}
 use Rattle.px_value.specs.Datum.{integer, Slot}
 use Rattle.px_value.specs.Kind.{Kind, booleans, int8s, int16s, int32s, int64s, uint8s, uint16s, uint32s, uint64s, strings, binaries, nulls, lists, fits, slot_fits, slots_fit, is_signed, is_unsigned}
-use Rattle.px_expression.specs.Node.{integers, natural}
+use Rattle.px_tree.specs.Node.{integers, natural}
 use Rattle.px_value.specs.Series.{Series}
 use Rattle.px_value.specs.View.{slot_of, slots_of}
 use Rattle.px_value.specs.declared.error.PxError.{PxError}
 use Rattle.px_value.specs.declared.value.Value.{Value}
-use Rattle.px_expression.specs.Typing.{is_range_kind}
+use Rattle.px_tree.specs.Typing.{is_range_kind}
 use Rattle.px_expr.specs.Literal.{range_column}
 use Rattle.px_value.specs.FitLaws.{both}
 

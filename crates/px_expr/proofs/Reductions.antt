@@ -17,13 +17,13 @@ use Rattle.px_value.specs.declared.method.GroupByMethod.TheVariants.{Min, Max, S
 use Rattle.px_frame.specs.Cell.{Cell, unit, rows, list_of}
 use Rattle.px_frame.specs.External.{Frame, scope_of}
 use Rattle.px_frame.specs.Schema.{FieldKind}
-use Rattle.px_expression.specs.Node.{cell_of, reduction_cell}
-use Rattle.px_expression.specs.Shape.{is_unit, is_implode, name_of}
-use Rattle.px_expression.specs.Size.{size_on, counts_on}
-use Rattle.px_expression.specs.Tree.{Tree, agg}
-use Rattle.px_expression.specs.Typing.{Scope, kind_in, refusals_of, refusal_of, refusal_of_one, or_first, refused_where, first_or_kind, made_kind}
-use Rattle.px_expression.specs.Value.{value_on, outcome_on, made, faults_on, has_misfit}
-use Rattle.px_expression.specs.declared.context.Context.TheVariants.{Default}
+use Rattle.px_tree.specs.Node.{cell_of, reduction_cell}
+use Rattle.px_tree.specs.Shape.{is_unit, is_implode, name_of}
+use Rattle.px_tree.specs.Size.{size_on, counts_on}
+use Rattle.px_tree.specs.Tree.{Tree, agg}
+use Rattle.px_tree.specs.Typing.{Scope, kind_in, refusals_of, refusal_of, refusal_of_one, or_first, refused_where, first_or_kind, made_kind}
+use Rattle.px_tree.specs.Value.{value_on, outcome_on, made, faults_on, has_misfit}
+use Rattle.px_tree.specs.declared.context.Context.TheVariants.{Default}
 use Rattle.px_expr.specs.Live.{field_of, field_on}
 use Rattle.px_expr.specs.NodeView.{reduction_plan}
 use Rattle.px_expr.specs.Planned.{Planned, PlannedReduction}

@@ -1,8 +1,8 @@
 -- A node's child is smaller than the node.
 use Rattle.std.specs.Prelude.{⊤, ◌≡◌, ℕ, ◌+◌, ◌≤◌}
 use Rattle.std.proofs.Common.{arith}
-use Rattle.px_expression.specs.Nodes.{nodes_of}
-use Rattle.px_expression.specs.View.{tree}
+use Rattle.px_tree.specs.Nodes.{nodes_of}
+use Rattle.px_tree.specs.View.{tree}
 use Rattle.px_expr.specs.NodeView.{plan_of}
 use Rattle.px_expr.specs.declared.node.PhysExpr.{PhysExpr}
 use Rattle.px_expr.specs.declared.node.PhysExpr.TheVariants.{Column, Literal, Alias, Aggregation, Count}

@@ -5,7 +5,7 @@ use Rattle.px_operation.specs.Cast.{natural_of}
 use Rattle.px_value.specs.declared.error.PxError.{PxError}
 use Rattle.px_value.specs.declared.error.PxError.TheVariants.{ComputeError}
 use Rattle.px_value.specs.declared.error.ComputeWhy.TheVariants.{DepthText}
-use Rattle.px_expression.specs.Tree.{Tree, Trees, Order, no_trees, one_tree, no_order, ordered, column, literal, alias, binary, ternary, cast, function, filter, slice, gather, sort, sort_by, agg, len, window}
+use Rattle.px_tree.specs.Tree.{Tree, Trees, Order, no_trees, one_tree, no_order, ordered, column, literal, alias, binary, ternary, cast, function, filter, slice, gather, sort, sort_by, agg, len, window}
 
 -- the greatest number of nodes on a path from an expression to one of its leaves
 abbrev mutual

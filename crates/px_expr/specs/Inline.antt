@@ -2,8 +2,8 @@
 use Rattle.std.specs.Prelude.{ℕ, zero, suc, Bool, true, false, [], Option, None, if◌then◌else◌}
 use Rattle.px_value.specs.Series.{Series}
 use Rattle.px_frame.specs.External.{alone}
-use Rattle.px_expression.specs.Shape.{is_single}
-use Rattle.px_expression.specs.Tree.{Tree, Literal, range, literal, alias}
+use Rattle.px_tree.specs.Shape.{is_single}
+use Rattle.px_tree.specs.Tree.{Tree, Literal, range, literal, alias}
 use Rattle.px_expr.specs.Value.{column_on}
 
 -- a literal whose rows are there already

@@ -1,4 +1,3 @@
-pub mod Built
 pub mod Deep
 pub mod Depth
 pub mod Inline

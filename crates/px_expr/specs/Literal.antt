@@ -7,9 +7,9 @@ use Rattle.px_value.specs.declared.error.PxError.{PxError}
 use Rattle.px_value.specs.declared.error.PxError.TheVariants.{InvalidOperation, ComputeError}
 use Rattle.px_value.specs.declared.error.InvalidWhy.TheVariants.{RangeType}
 use Rattle.px_value.specs.declared.error.ComputeWhy.TheVariants.{RangeBound, TooLong}
-use Rattle.px_expression.specs.Node.{integers, natural}
-use Rattle.px_expression.specs.Tree.{Literal, single, range, series}
-use Rattle.px_expression.specs.Typing.{is_range_kind}
+use Rattle.px_tree.specs.Node.{integers, natural}
+use Rattle.px_tree.specs.Tree.{Literal, single, range, series}
+use Rattle.px_tree.specs.Typing.{is_range_kind}
 
 -- a single value as one row, or a column of its own; a range has no rows yet
 abbrev pub kept_column : Literal → Option Series

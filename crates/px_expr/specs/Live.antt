@@ -6,11 +6,11 @@ use Rattle.px_value.specs.Result.{◌>>=◌}
 use Rattle.px_value.specs.declared.error.PxError.{PxError}
 use Rattle.px_frame.specs.Frame.{name_eq}
 use Rattle.px_frame.specs.Schema.{FieldKind}
-use Rattle.px_expression.specs.Shape.{name_of}
-use Rattle.px_expression.specs.Tree.{Tree, Trees, Order, no_trees, one_tree, no_order, ordered, column, literal, alias, binary, ternary, cast, function, filter, slice, gather, sort, sort_by, agg, len, window}
-use Rattle.px_expression.specs.Typing.{Scope, type_of}
-use Rattle.px_expression.specs.declared.context.Context.TheVariants.{Default}
-use Rattle.px_expression.specs.declared.function.FunctionExpr.TheVariants.{IsNull, IsNotNull, Not}
+use Rattle.px_tree.specs.Shape.{name_of}
+use Rattle.px_tree.specs.Tree.{Tree, by_name, Trees, Order, no_trees, one_tree, no_order, ordered, column, literal, alias, binary, ternary, cast, function, filter, slice, gather, sort, sort_by, agg, len, window}
+use Rattle.px_tree.specs.Typing.{Scope, type_of}
+use Rattle.px_tree.specs.declared.context.Context.TheVariants.{Default}
+use Rattle.px_tree.specs.declared.function.FunctionExpr.TheVariants.{IsNull, IsNotNull, Not}
 
 -- the expression that a node gives: none for a reduction, and for an alias the one that it stands over
 abbrev pub expression_of : Tree → Option Tree
@@ -42,9 +42,9 @@ is_partitioned (column n) = true
 is_partitioned len = true
 is_partitioned (literal v) = true
 is_partitioned (ternary p a b) = true
-is_partitioned (function (one_tree e no_trees) IsNull) = true
-is_partitioned (function (one_tree e no_trees) IsNotNull) = true
-is_partitioned (function (one_tree e no_trees) Not) = true
+is_partitioned (function (one_tree e no_trees) (by_name IsNull)) = true
+is_partitioned (function (one_tree e no_trees) (by_name IsNotNull)) = true
+is_partitioned (function (one_tree e no_trees) (by_name Not)) = true
 is_partitioned _ = false
 
 -- the names of the columns that an expression reads, in the order of visit, and the names that its aliases give; a window

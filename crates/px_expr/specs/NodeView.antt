@@ -1,6 +1,6 @@
 -- What contracts see of a node of any kind.
 use Rattle.std.specs.Prelude.{[], ◌∷◌}
-use Rattle.px_expression.specs.Tree.{agg}
+use Rattle.px_tree.specs.Tree.{agg}
 use Rattle.px_expr.specs.Planned.{Planned, PlannedReduction}
 use Rattle.px_expr.specs.declared.node.PhysExpr.{PhysExpr}
 use Rattle.px_expr.specs.declared.node.PhysExpr.TheVariants.{Column, Literal, Alias, Aggregation, Count}

@@ -5,11 +5,11 @@ use Rattle.px_value.specs.Result.{◌>>=◌}
 use Rattle.px_value.specs.declared.error.PxError.{PxError}
 use Rattle.px_arena.specs.Arena.{tree_at}
 use Rattle.px_arena.specs.Named.{NamedNode}
-use Rattle.px_expression.specs.Nodes.{leaf_names}
-use Rattle.px_expression.specs.Tree.{Tree, alias}
-use Rattle.px_expression.specs.Typing.{Scope, type_of}
-use Rattle.px_expression.specs.declared.context.Context.{Context}
-use Rattle.px_expr.specs.Built.{is_built_tree}
+use Rattle.px_tree.specs.Nodes.{leaf_names}
+use Rattle.px_tree.specs.Tree.{Tree, alias}
+use Rattle.px_tree.specs.Typing.{Scope, type_of}
+use Rattle.px_tree.specs.declared.context.Context.{Context}
+use Rattle.px_tree.specs.Built.{is_built_tree}
 use Rattle.px_expr.specs.Depth.{has_window, is_too_deep}
 use Rattle.px_expr.specs.Planned.{Planned}
 use Rattle.px_expr.specs.declared.conversion.ExpressionConversionState.{ExpressionConversionState}

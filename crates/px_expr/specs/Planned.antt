@@ -8,8 +8,8 @@ use Rattle.px_value.specs.contracts.method.GroupByMethod as method
 use Rattle.px_frame.specs.External.{Frame, look_in}
 use Rattle.px_frame.specs.Frame.{look}
 use Rattle.px_frame.specs.Schema.{FieldKind, coded_field, has_field_name}
-use Rattle.px_expression.specs.Tree.{Tree}
-use Rattle.px_expression.specs.TreeCode.{coded_tree}
+use Rattle.px_tree.specs.Tree.{Tree}
+use Rattle.px_tree.specs.TreeCode.{coded_tree}
 
 -- a column node: the name, and the schema that it was planned over
 pub record PlannedColumn : Type 0 where

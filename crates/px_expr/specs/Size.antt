@@ -1,6 +1,6 @@
 -- The measure by which the calls of a node's children end.
 use Rattle.std.specs.Prelude.{ℕ}
-use Rattle.px_expression.specs.Nodes.{nodes_of}
+use Rattle.px_tree.specs.Nodes.{nodes_of}
 use Rattle.px_expr.specs.Planned.{Planned, PlannedReduction}
 use Rattle.px_expr.specs.NodeView.{reduction_plan}
 

@@ -10,13 +10,13 @@ use Rattle.px_frame.specs.Cell.{list_of}
 use Rattle.px_frame.specs.External.{Frame, scope_of}
 use Rattle.px_frame.specs.Schema.{FieldKind}
 use Rattle.px_frame.specs.Spread.{NamedCell}
-use Rattle.px_expression.specs.Node.{cell_of}
-use Rattle.px_expression.specs.Shape.{is_unit, name_of}
-use Rattle.px_expression.specs.Size.{size_on}
-use Rattle.px_expression.specs.Tree.{Tree}
-use Rattle.px_expression.specs.Typing.{Scope, kind_in, refusals_of, refused_where}
-use Rattle.px_expression.specs.Value.{value_on, named, faults_on, has_misfit}
-use Rattle.px_expression.specs.declared.context.Context.TheVariants.{Default}
+use Rattle.px_tree.specs.Node.{cell_of}
+use Rattle.px_tree.specs.Shape.{is_unit, name_of}
+use Rattle.px_tree.specs.Size.{size_on}
+use Rattle.px_tree.specs.Tree.{Tree}
+use Rattle.px_tree.specs.Typing.{Scope, kind_in, refusals_of, refused_where}
+use Rattle.px_tree.specs.Value.{value_on, named, faults_on, has_misfit}
+use Rattle.px_tree.specs.declared.context.Context.TheVariants.{Default}
 use Rattle.px_expr.specs.Planned.{Planned, PlannedColumn, found_by}
 
 -- a value under its name and type as a column; a unit is one row

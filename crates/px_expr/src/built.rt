@@ -1,7 +1,7 @@
 //! Which expressions have nodes.
 ghost use Rattle.std.specs.Prelude.{◌≡◌};
-ghost use Rattle.px_expression.specs.View.{tree, agg_tree};
-ghost use Rattle.px_expr.specs.Built.{is_built_tree};
+ghost use Rattle.px_tree.specs.View.{tree, agg_tree};
+ghost use Rattle.px_tree.specs.Built.{is_built_tree};
 
 use px_plan::{AggExpr, Expr};
 

@@ -1,6 +1,6 @@
 //! What planning keeps beside the nodes.
 ghost use Rattle.std.specs.Prelude.{◌≡◌, false, option_map};
-ghost use Rattle.px_expression.specs.View.{tree};
+ghost use Rattle.px_tree.specs.View.{tree};
 ghost use Rattle.px_expr.specs.Depth.{depth_limit_of, written_depth_limit};
 ghost use Rattle.px_expr.specs.Plan.{noted};
 

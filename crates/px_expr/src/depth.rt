@@ -1,6 +1,6 @@
 //! How deep expressions are, and whether windows stand in them.
 ghost use Rattle.std.specs.Prelude.{◌≡◌, nat_le};
-ghost use Rattle.px_expression.specs.View.{tree, trees, agg_tree, order_tree};
+ghost use Rattle.px_tree.specs.View.{tree, trees, agg_tree, order_tree};
 ghost use Rattle.px_expr.specs.Depth.{depth_of, all_depth_of, order_depth_of, has_window, have_window, is_too_deep};
 
 use px_column::SortOptions;

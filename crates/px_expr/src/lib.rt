@@ -14,8 +14,6 @@ mod node;
 mod physical;
 mod planner;
 mod range;
-#[cfg(test)]
-mod tests;
 
 pub use built::is_built;
 pub use conversion::{ExpressionConversionState, LocalConversionState, get_expr_depth_limit};

@@ -4,8 +4,8 @@ ghost use Rattle.px_value.specs.Answer.{Answers};
 ghost use Rattle.px_value.specs.Kind.{fits};
 ghost use Rattle.px_value.specs.KindView.{kind_of};
 ghost use Rattle.px_value.specs.View.{datum_of};
-ghost use Rattle.px_expression.specs.Tree.{single};
-ghost use Rattle.px_expression.specs.View.{literal_of};
+ghost use Rattle.px_tree.specs.Tree.{single};
+ghost use Rattle.px_tree.specs.View.{literal_of};
 ghost use Rattle.px_expr.specs.Literal.{kept_column, literal_column};
 
 use crate::node::LiteralExpr;

@@ -1,9 +1,9 @@
 //! The nodes, each with the expression that it stands for.
 ghost use Rattle.std.specs.Prelude.{◌≡◌, [], ◌∷◌, option_map};
 ghost use Rattle.px_frame.specs.SchemaView.{field_kind};
-ghost use Rattle.px_expression.specs.Shape.{name_of};
-ghost use Rattle.px_expression.specs.Tree.{column, literal, alias, len};
-ghost use Rattle.px_expression.specs.View.{tree, literal_of};
+ghost use Rattle.px_tree.specs.Shape.{name_of};
+ghost use Rattle.px_tree.specs.Tree.{column, literal, alias, len};
+ghost use Rattle.px_tree.specs.View.{tree, literal_of};
 ghost use Rattle.px_expr.specs.NodeView.{plan_of};
 
 use px_column::{GroupByMethod, Name};
@@ -27,8 +27,8 @@ impl Model for ColumnExpr {
     ghost coded = { coded_planned };
 
     ghost use Rattle.std.specs.Prelude.{◌≡◌, [], ◌∷◌};
-    ghost use Rattle.px_expression.specs.Tree.{column};
-    ghost use Rattle.px_expression.specs.View.{tree};
+    ghost use Rattle.px_tree.specs.Tree.{column};
+    ghost use Rattle.px_tree.specs.View.{tree};
 
     ghost view = { λ a. record { tree = column a.name; columns = record { name = a.name; schema = a.schema.value } ∷ [] } };
 
@@ -82,8 +82,8 @@ impl Model for LiteralExpr {
     ghost coded = { coded_planned };
 
     ghost use Rattle.std.specs.Prelude.{◌≡◌, []};
-    ghost use Rattle.px_expression.specs.Tree.{literal};
-    ghost use Rattle.px_expression.specs.View.{tree, literal_of};
+    ghost use Rattle.px_tree.specs.Tree.{literal};
+    ghost use Rattle.px_tree.specs.View.{tree, literal_of};
 
     ghost view = { λ a. record { tree = literal (literal_of a.value); columns = [] } };
 
@@ -132,8 +132,8 @@ impl Model for AliasExpr {
     ghost coded = { coded_planned };
 
     ghost use Rattle.std.specs.Prelude.{◌≡◌};
-    ghost use Rattle.px_expression.specs.Tree.{alias};
-    ghost use Rattle.px_expression.specs.View.{tree};
+    ghost use Rattle.px_tree.specs.Tree.{alias};
+    ghost use Rattle.px_tree.specs.View.{tree};
     ghost use Rattle.px_expr.specs.NodeView.{plan_of};
     ghost use Rattle.px_expr.specs.Size.{plan_size};
 
@@ -275,8 +275,8 @@ impl Model for CountExpr {
     ghost coded = { coded_planned };
 
     ghost use Rattle.std.specs.Prelude.{◌≡◌, []};
-    ghost use Rattle.px_expression.specs.Tree.{len};
-    ghost use Rattle.px_expression.specs.View.{tree};
+    ghost use Rattle.px_tree.specs.Tree.{len};
+    ghost use Rattle.px_tree.specs.View.{tree};
 
     ghost view = { λ a. record { tree = len; columns = [] } };
 

@@ -3,8 +3,8 @@ ghost use Rattle.std.specs.Prelude.{◌≡◌, Ok, IfOk, IfErr, OnOk, OnErr, opt
 ghost use Rattle.px_value.specs.Answer.{AnswersBy, Answers};
 ghost use Rattle.px_frame.specs.External.{alone};
 ghost use Rattle.px_frame.specs.SchemaView.{field_kind};
-ghost use Rattle.px_expression.specs.Shape.{is_unit};
-ghost use Rattle.px_expression.specs.View.{tree};
+ghost use Rattle.px_tree.specs.Shape.{is_unit};
+ghost use Rattle.px_tree.specs.View.{tree};
 ghost use Rattle.px_expr.specs.Inline.{inline_on};
 ghost use Rattle.px_expr.specs.Live.{expression_of, field_on, is_literal_node, is_partitioned, live_names, added, AddsFront};
 ghost use Rattle.px_expr.specs.Planned.{Planned};

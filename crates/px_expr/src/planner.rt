@@ -4,9 +4,9 @@ ghost use Rattle.std.specs.List.{All};
 ghost use Rattle.px_value.specs.Answer.{AnswersBy};
 ghost use Rattle.px_value.specs.declared.method.GroupByMethod.TheVariants.{Sum};
 ghost use Rattle.px_arena.specs.Arena.{tree_at};
-ghost use Rattle.px_expression.specs.Tree.{column, literal, alias, agg};
-ghost use Rattle.px_expression.specs.View.{tree, agg_tree, literal_of};
-ghost use Rattle.px_expr.specs.Built.{is_built_tree};
+ghost use Rattle.px_tree.specs.Tree.{column, literal, alias, agg};
+ghost use Rattle.px_tree.specs.View.{tree, agg_tree, literal_of};
+ghost use Rattle.px_tree.specs.Built.{is_built_tree};
 ghost use Rattle.px_expr.specs.NodeView.{plan_of};
 ghost use Rattle.px_expr.specs.Plan.{plan_in, plans_in, planned_over, noted, all_noted, IsPlannable, NotesFront};
 

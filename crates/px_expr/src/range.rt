@@ -6,8 +6,8 @@ ghost use Rattle.px_value.specs.Datum.{integer};
 ghost use Rattle.px_value.specs.Kind.{fits};
 ghost use Rattle.px_value.specs.KindView.{kind_of};
 ghost use Rattle.px_value.specs.View.{slot_of, slots_of};
-ghost use Rattle.px_expression.specs.Node.{natural};
-ghost use Rattle.px_expression.specs.Typing.{is_range_kind};
+ghost use Rattle.px_tree.specs.Node.{natural};
+ghost use Rattle.px_tree.specs.Typing.{is_range_kind};
 ghost use Rattle.px_expr.specs.Literal.{range_column};
 
 use px_column::{Column, ComputeWhy, DataType, InvalidWhy, Name, Px, PxError, Value};

@@ -1,5 +1,5 @@
 -- Cells that are spread one after another, and the frame that they make.
-use Rattle.std.proofs.Common.{◌≡◌, ℕ, ◌==◌, Bool, true, false, ◌&&◌, cond, List, [], ◌∷◌, ◌++◌, Option, Some, None, Result, Ok, Err, length, map, replicate, refl, sym, ◌∙◌, ap, arith}
+use Rattle.std.proofs.Common.{◌≡◌, ℕ, ◌^◌, ◌<◌, lit<, ◌==◌, Bool, true, false, ◌&&◌, cond, List, [], ◌∷◌, ◌++◌, Option, Some, None, Result, Ok, Err, length, map, replicate, refl, sym, ◌∙◌, ap, arith}
 use Rattle.std.proofs.lemmas.Bool.Decides.{nat_tests}
 use Rattle.std.proofs.lemmas.List.{length-replicate}
 use Rattle.px_value.specs.Datum.{Slot}
@@ -7,7 +7,7 @@ use Rattle.px_value.specs.Series.{Series}
 use Rattle.px_value.specs.declared.error.PxError.{PxError}
 use Rattle.px_value.specs.declared.error.PxError.TheVariants.{ShapeMismatch}
 use Rattle.px_frame.specs.Cell.{Cell, unit, rows}
-use Rattle.px_frame.specs.Frame.{names_of, has_height, all_have_height, is_even, IsFrame, first_repeat, unless_repeated}
+use Rattle.px_frame.specs.Frame.{names_of, height_of, has_height, all_have_height, is_even, IsFrame, first_repeat, unless_repeated}
 use Rattle.px_frame.specs.Spread.{NamedCell, spread, spread_all, with_slots, before_all}
 use Rattle.px_frame.proofs.Each.{has_height_is}
 use Rattle.px_value.specs.FitLaws.{both}
@@ -53,6 +53,15 @@ spread_heights n (c ∷ cells) ss e = by (spread n c.cell) (spread_height n c.ce
 even_at : (n : ℕ) (ss : List Series) → all_have_height n ss ≡ true → is_even ss ≡ true
 even_at n [] h = refl
 even_at n (s ∷ ss) h = ap (λ m. all_have_height m (s ∷ ss)) (has_height_is n s (both (has_height n s) (all_have_height n ss) h).0) ∙ h
+
+-- columns of n rows are no higher than that
+pub short_at : (n : ℕ) (ss : List Series) → n < 2 ^ 32 → all_have_height n ss ≡ true → height_of ss < 2 ^ 32
+short_at n [] b h = lit< tt
+short_at n (s ∷ ss) b h = omega (arith, has_height_is n s (both (has_height n s) (all_have_height n ss) h).0)
+
+-- and so is what is spread to n rows
+pub short-beside : (n : ℕ) (cells : List NamedCell) (ss : List Series) → n < 2 ^ 32 → spread_all n cells ≡ Ok ss → height_of ss < 2 ^ 32
+short-beside n cells ss b e = short_at n ss b (spread_heights n cells ss e)
 
 -- no name stands twice, and these are the names
 pub unrepeated : {X : Type 0} (r : Option (List ℕ)) (made given : X) → unless_repeated r (Ok made) ≡ Ok given → (r ≡ None) × (made ≡ given)

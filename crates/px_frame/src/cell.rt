@@ -1,10 +1,10 @@
 //! The values of expressions side by side: units, which take any length, beside lists of one length.
-ghost use Rattle.std.specs.Prelude.{◌≡◌, [], Ok, length, map};
+ghost use Rattle.std.specs.Prelude.{◌≡◌, ◌<◌, ◌^◌, [], Ok, IfOk, length, map};
 ghost use Rattle.px_value.specs.Answer.{Answers, AnswersBy};
 ghost use Rattle.px_column.specs.Repeat.{repeated};
 ghost use Rattle.px_value.specs.Series.{slot_at};
 ghost use Rattle.px_frame.specs.CellView.{named_cell};
-ghost use Rattle.px_frame.specs.Frame.{first_repeat, unless_repeated};
+ghost use Rattle.px_frame.specs.Frame.{first_repeat, height_of, unless_repeated};
 ghost use Rattle.px_frame.specs.Spread.{assembled, rows_beside, spread_all, spread_column};
 
 use crate::frame::{DataFrame, add_name};
@@ -13,8 +13,6 @@ use px_column::{Column, Name, Px, PxError};
 use std::alloc::Global;
 use std::marker::Model;
 
-#[cfg(test)]
-mod tests;
 
 /// A column of exactly one row (polars `ScalarColumn`), seen as that column.
 #[derive(Drop)]
@@ -139,7 +137,8 @@ fn spread_each(alloc: Global, cells: Vec<Cell>, height: u32) -> Px<Vec<Column>>
 /// too, then `ShapeMismatch` where lists differ in length (polars `DataFrame::new_with_broadcast`,
 /// which repeats lists of one row too).
 pub fn assemble(alloc: Global, cells: Vec<Cell>) -> Px<DataFrame>
-    ensures { Answers result (assembled (map named_cell cells.items)) }
+    ensures answer { Answers result (assembled (map named_cell cells.items)) }
+    ensures short { IfOk result (λ f. height_of f < 2 ^ 32) }
 {
     let names = distinct_names(alloc, &cells)?;
     let height = rows_beside(&cells);

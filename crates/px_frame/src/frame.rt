@@ -1,5 +1,5 @@
 //! Frames: columns with distinct names and of one height.
-ghost use Rattle.std.specs.Prelude.{◌≡◌, ◌<◌, ◌≤◌, ◌+◌, ◌^◌, ◌++◌, ◌∷◌, [], Ok, Err, OnOk, IfSome, true, List, map, option_map, length, vec_len, if◌then◌else◌};
+ghost use Rattle.std.specs.Prelude.{◌≡◌, ◌<◌, ◌≤◌, ◌+◌, ◌^◌, ◌++◌, ◌∷◌, [], Ok, Err, IfOk, OnErr, OnOk, IfSome, true, List, map, option_map, length, vec_len, if◌then◌else◌};
 ghost use Rattle.std.specs.List.{list_any, range_with_len};
 ghost use Rattle.px_value.specs.Answer.{Answers, AnswersBy};
 ghost use Rattle.px_column.specs.Column.{all_within};
@@ -38,10 +38,12 @@ impl Model for DataFrame {
     ghost invariant = { λ f. (f.names.keys ≡ names_of f.columns.items) × IsFrame f.columns.items };
 }
 
-/// One more name, unless it is there already, which is a `Duplicate`.
+/// One more name, unless it is there already, which is a `Duplicate`; after a refusal the names are
+/// as they were.
 pub fn add_name(alloc: Global, names: &mut IndexSet<Name>, name: &Name) -> Px<()>
     ensures answer { Answers result (if list_any (name_eq name.now) names.old.keys then Err (Duplicate name.now) else Ok tt) }
     ensures added { OnOk result (names.new.keys ≡ names.old.keys ++ name.now ∷ []) }
+    ensures kept { OnErr result (names.new.keys ≡ names.old.keys) }
 {
     let (_, is_new) = names.insert_full(name.try_clone(alloc)?)?;
     if is_new {
@@ -87,7 +89,8 @@ impl DataFrame {
     /// The frame of these columns; `Duplicate` with the first name that stands earlier, then
     /// `ShapeMismatch` where lengths differ (polars `DataFrame::new`).
     pub fn new(alloc: Global, columns: Vec<Column>) -> Px<DataFrame>
-        ensures { Answers result (frame_of columns.items) }
+        ensures answer { Answers result (frame_of columns.items) }
+        ensures short { IfOk result (λ f. height_of f < 2 ^ 32) }
     {
         let names = distinct_names(alloc, &columns)?;
         if all_have_height(&columns, height(&columns)) {

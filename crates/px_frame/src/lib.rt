@@ -7,8 +7,6 @@ mod frame;
 mod grouping;
 mod groups;
 mod schema;
-#[cfg(test)]
-mod tests;
 
 pub use aggregate::{agg_sum, key_rows};
 pub use cell::{Cell, UnitColumn, assemble, spread};

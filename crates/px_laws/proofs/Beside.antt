@@ -13,12 +13,12 @@ use Rattle.px_frame.specs.External.{look_in, scope_of, rows_of_frame, with_field
 use Rattle.px_frame.specs.Frame.{look, has_name, series_at, height_of}
 use Rattle.px_frame.specs.Schema.{FieldKind, column_field, has_field_name, is_field_name}
 use Rattle.px_frame.specs.Spread.{NamedCell}
-use Rattle.px_expression.specs.Node.{binary_cell, ternary_cell, cast_cell, function_cell, filter_cell, slice_cell, gather_cell, sort_cell, sort_by_cell, reduction_cell}
-use Rattle.px_expression.specs.Nodes.{leaf_names, all_leaf_names, order_leaf_names}
-use Rattle.px_expression.specs.Shape.{is_unit, is_literal_tree, name_of}
-use Rattle.px_expression.specs.Tree.{Tree, Trees, Order, no_trees, one_tree, no_order, ordered, column, literal, alias, binary, ternary, cast, function, filter, slice, gather, sort, sort_by, agg, len, window}
-use Rattle.px_expression.specs.Typing.{kind_in, kinds_in, kind_of_name, made_kind, function_kind, window_kind}
-use Rattle.px_expression.specs.Value.{value_on, outcome_on, made, cells_on, named_on, order_on, first_kind, whole_window, window_parts}
+use Rattle.px_tree.specs.Node.{binary_cell, ternary_cell, cast_cell, function_cell, filter_cell, slice_cell, gather_cell, sort_cell, sort_by_cell, reduction_cell}
+use Rattle.px_tree.specs.Nodes.{leaf_names, all_leaf_names, order_leaf_names}
+use Rattle.px_tree.specs.Shape.{is_unit, is_literal_tree, name_of}
+use Rattle.px_tree.specs.Tree.{Tree, called, Trees, Order, no_trees, one_tree, no_order, ordered, column, literal, alias, binary, ternary, cast, function, filter, slice, gather, sort, sort_by, agg, len, window}
+use Rattle.px_tree.specs.Typing.{kind_in, kinds_in, kind_of_name, made_kind, function_kind, window_kind}
+use Rattle.px_tree.specs.Value.{value_on, outcome_on, made, cells_on, named_on, order_on, first_kind, whole_window, window_parts}
 use Rattle.px_laws.specs.Beside.{beside, is_column_of, are_columns_of}
 use Rattle.px_value.specs.FitLaws.{both}
 use Rattle.px_frame.specs.LookLaws.{field_look, look_rows as look_at}
@@ -80,7 +80,7 @@ mutual
       λ i. kind_same l cs a b s.0 i >>= λ j. kind_same r cs a b s.1 i >>= λ k. made_kind (operator_kind op j k)
   kind_same (ternary p x y) cs a b h = let s = split cs (leaf_names p) (leaf_names x ++ leaf_names y) h in kind_same x cs a b (split cs (leaf_names x) (leaf_names y) s.1).0
   kind_same (cast e k options) cs a b h = refl
-  kind_same (function es f) cs a b h = λ i. kinds_same es cs a b h i >>= λ ks. made_kind (function_kind f ks)
+  kind_same (function es f) cs a b h = λ i. kinds_same es cs a b h i >>= λ ks. made_kind (function_kind (called f) ks)
   kind_same (filter e by) cs a b h = kind_same e cs a b (split cs (leaf_names e) (leaf_names by) h).0
   kind_same (slice e offset length) cs a b h = kind_same e cs a b (split cs (leaf_names e) (leaf_names offset ++ leaf_names length) h).0
   kind_same (gather e idx one) cs a b h = kind_same e cs a b (split cs (leaf_names e) (leaf_names idx) h).0
@@ -127,7 +127,7 @@ mutual
       let t = split cs (leaf_names x) (leaf_names y) s.1 in
       λ i. made (outcome_same p cs a b s.0 i) >>= λ c. made (outcome_same x cs a b t.0 i) >>= λ d. made (outcome_same y cs a b t.1 i) >>= λ e. Some (ternary_cell c d e)
   outcome_same (cast e to options) cs a b h = λ i. kind_same e cs a b h i >>= λ k. made (outcome_same e cs a b h i) >>= λ c. Some (cast_cell k to options c)
-  outcome_same (function es f) cs a b h = λ i. kinds_same es cs a b h i >>= λ ks. cells_same es cs a b h i >>= λ xs. Some (function_cell f (first_kind ks) xs)
+  outcome_same (function es f) cs a b h = λ i. kinds_same es cs a b h i >>= λ ks. cells_same es cs a b h i >>= λ xs. Some (function_cell (called f) (first_kind ks) xs)
   outcome_same (filter e by) cs a b h =
       let s = split cs (leaf_names e) (leaf_names by) h in
       λ i. made (outcome_same e cs a b s.0 i) >>= λ c. made (outcome_same by cs a b s.1 i) >>= λ mask. Some (filter_cell c mask)

@@ -11,16 +11,16 @@ use Rattle.px_frame.specs.External.{Frame, height, look_in, scope_of, rows_of_fr
 use Rattle.px_frame.specs.Frame.{look, has_name, series_at}
 use Rattle.px_frame.specs.Schema.{FieldKind, column_field, has_field_name, is_field_name}
 use Rattle.px_frame.specs.Spread.{NamedCell}
-use Rattle.px_expression.specs.Node.{literal_cell, binary_cell, ternary_cell, cast_cell, function_cell, filter_cell, slice_cell, gather_cell, sort_cell, sort_by_cell, reduction_cell}
-use Rattle.px_expression.specs.Shape.{is_literal_tree, name_of}
-use Rattle.px_expression.specs.Tree.{Tree, Trees, Order, no_trees, one_tree, no_order, ordered, column, literal, alias, binary, ternary, cast, function, filter, slice, gather, sort, sort_by, agg, len, window}
-use Rattle.px_expression.specs.Typing.{kind_in, kinds_in, kind_of_name, refusals_of, all_refusals_of, order_refusals_of}
-use Rattle.px_expression.specs.Value.{value_on, outcome_on, made, cells_on, named_on, order_on, named, first_kind, whole_window, window_parts, fault_in, faults_on, all_faults_on, order_faults_on, parts_in, parts_on}
-use Rattle.px_expression.specs.Window.{OrderCell, parts_by, window_cell}
-use Rattle.px_expression.specs.declared.context.Context.{Context}
-use Rattle.px_expression.specs.declared.context.Context.TheVariants.{Default, Aggregation}
-use Rattle.px_expression.specs.declared.window.WindowMapping.{WindowMapping}
-use Rattle.px_expression.specs.KindLaws.{There, none_left, none_right, none_first, kind_there, kinds_there}
+use Rattle.px_tree.specs.Node.{literal_cell, binary_cell, ternary_cell, cast_cell, function_cell, filter_cell, slice_cell, gather_cell, sort_cell, sort_by_cell, reduction_cell}
+use Rattle.px_tree.specs.Shape.{is_literal_tree, name_of}
+use Rattle.px_tree.specs.Tree.{Tree, called, Trees, Order, no_trees, one_tree, no_order, ordered, column, literal, alias, binary, ternary, cast, function, filter, slice, gather, sort, sort_by, agg, len, window}
+use Rattle.px_tree.specs.Typing.{kind_in, kinds_in, kind_of_name, refusals_of, all_refusals_of, order_refusals_of}
+use Rattle.px_tree.specs.Value.{value_on, outcome_on, made, cells_on, named_on, order_on, named, first_kind, whole_window, window_parts, fault_in, faults_on, all_faults_on, order_faults_on, parts_in, parts_on}
+use Rattle.px_tree.specs.Window.{OrderCell, parts_by, window_cell}
+use Rattle.px_tree.specs.declared.context.Context.{Context}
+use Rattle.px_tree.specs.declared.context.Context.TheVariants.{Default, Aggregation}
+use Rattle.px_tree.specs.declared.window.WindowMapping.{WindowMapping}
+use Rattle.px_tree.specs.KindLaws.{There, none_left, none_right, none_first, kind_there, kinds_there}
 use Rattle.px_laws.proofs.Shapes.{bound, made_bound, map_found}
 use Rattle.px_frame.specs.LookLaws.{field_look}
 
@@ -166,7 +166,7 @@ mutual
       let inputs = none_first _ _ r in
       let ks = kinds_there es (scope_of frame) place inputs in
       let cs = cells_there es frame place inputs (none_left _ _ h) in
-      own_there (outcome_on (function es f) frame) (function_cell f (first_kind ks.0) cs.0) (λ i. ks.1 i >>= λ js. cs.1 i >>= λ xs. Some (function_cell f (first_kind js) xs)) (none_right (all_faults_on es frame) _ h)
+      own_there (outcome_on (function es f) frame) (function_cell (called f) (first_kind ks.0) cs.0) (λ i. ks.1 i >>= λ js. cs.1 i >>= λ xs. Some (function_cell (called f) (first_kind js) xs)) (none_right (all_faults_on es frame) _ h)
   value_there (filter e by) frame place r h =
       let inputs = none_first _ _ r in
       let faults = none_left (faults_on e frame ++ faults_on by frame) _ h in

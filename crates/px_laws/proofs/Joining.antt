@@ -22,14 +22,14 @@ use Rattle.px_frame.specs.Cell.{Cell, unit, rows, list_of}
 use Rattle.px_frame.specs.External.{Frame, height, look_in, scope_of, rows_of_frame, external_at}
 use Rattle.px_frame.specs.Frame.{look, has_name, has_height, series_at, slots_at}
 use Rattle.px_frame.specs.Spread.{spread, rows_beside}
-use Rattle.px_expression.specs.Node.{chosen, is_unit_cell, cell_of, map_cell, zip_cells, zip_three_cells, binary_cell, ternary_cell, cast_cell, function_cell}
-use Rattle.px_expression.specs.Nodes.{leaf_names, all_leaf_names}
-use Rattle.px_expression.specs.Partition.{is_elementwise, are_elementwise, is_row_function}
-use Rattle.px_expression.specs.Tree.{Tree, Trees, Literal, single, range, series, no_trees, one_tree, column, literal, alias, binary, ternary, cast, function, filter, slice, gather, sort, sort_by, agg, len, window}
-use Rattle.px_expression.specs.Typing.{Scope, kind_in, kinds_in}
-use Rattle.px_expression.specs.Value.{value_on, outcome_on, made, cells_on, first_kind, is_misfit}
-use Rattle.px_expression.specs.declared.function.FunctionExpr.{FunctionExpr}
-use Rattle.px_expression.specs.declared.function.FunctionExpr.TheVariants.{IsNull, IsNotNull, Not, IsBetween, IsIn, Reverse, Shift, DropNulls, NullCount, Explode}
+use Rattle.px_tree.specs.Node.{chosen, is_unit_cell, cell_of, map_cell, zip_cells, zip_three_cells, binary_cell, ternary_cell, cast_cell, function_cell}
+use Rattle.px_tree.specs.Nodes.{leaf_names, all_leaf_names}
+use Rattle.px_tree.specs.Partition.{is_elementwise, are_elementwise, is_row_function}
+use Rattle.px_tree.specs.Tree.{Tree, called, Trees, Literal, single, range, series, no_trees, one_tree, column, literal, alias, binary, ternary, cast, function, filter, slice, gather, sort, sort_by, agg, len, window}
+use Rattle.px_tree.specs.Typing.{Scope, kind_in, kinds_in}
+use Rattle.px_tree.specs.Value.{value_on, outcome_on, made, cells_on, first_kind, is_misfit}
+use Rattle.px_tree.specs.declared.function.FunctionExpr.{FunctionExpr}
+use Rattle.px_tree.specs.declared.function.FunctionExpr.TheVariants.{IsNull, IsNotNull, Not, IsBetween, IsIn, Reverse, Shift, DropNulls, NullCount, Explode}
 use Rattle.px_laws.proofs.Defined.{scope_of_rows}
 use Rattle.px_laws.proofs.Shapes.{bound, made_bound, made_ok, result_bound}
 use Rattle.px_value.specs.FitLaws.{both as both_true}
@@ -427,16 +427,16 @@ mutual
       (λ i. kind_on e frame p (p ++ q) (Some k.0) k.1 i >>= λ t. inner.0 i >>= λ c. Some (cast_cell t to o c))
       (cast_joins k.0 to o a b inner.1 (made_ok _ a x.2) after)
   value_joins (function es f) s frame p q a b w m h g =
-      let ew = both_true (is_row_function f) (are_elementwise es s) w in
+      let ew = both_true (is_row_function (called f)) (are_elementwise es s) w in
       let k = made_bound (kinds_in es (scope_of (rows_of_frame frame p))) _ a h in
       let x = made_bound (cells_on es (rows_of_frame frame p)) _ a k.2 in
       let j = made_bound (kinds_in es (scope_of (rows_of_frame frame q))) _ b g in
       let u = made_bound (cells_on es (rows_of_frame frame q)) _ b j.2 in
       let inner = cells_join es s frame p q x.0 u.0 ew.1 m x.1 u.1 in
-      let after = subst (λ i. function_cell f (first_kind i) u.0 ≡ Ok b) (same_kinds es frame p q k.0 j.0 k.1 j.1) (made_ok _ b u.2) in
-      of_result _ (function_cell f (first_kind k.0) (all_joined x.0 u.0)) a b
-      (λ i. kinds_on es frame p (p ++ q) (Some k.0) k.1 i >>= λ t. inner.0 i >>= λ c. Some (function_cell f (first_kind t) c))
-      (function_joins f (first_kind k.0) a b ew.0 inner.1 (made_ok _ a x.2) after)
+      let after = subst (λ i. function_cell (called f) (first_kind i) u.0 ≡ Ok b) (same_kinds es frame p q k.0 j.0 k.1 j.1) (made_ok _ b u.2) in
+      of_result _ (function_cell (called f) (first_kind k.0) (all_joined x.0 u.0)) a b
+      (λ i. kinds_on es frame p (p ++ q) (Some k.0) k.1 i >>= λ t. inner.0 i >>= λ c. Some (function_cell (called f) (first_kind t) c))
+      (function_joins (called f) (first_kind k.0) a b ew.0 inner.1 (made_ok _ a x.2) after)
   value_joins (filter e by) s frame p q a b w m h g = cc
   value_joins (slice e offset size) s frame p q a b w m h g = cc
   value_joins (gather e idx one) s frame p q a b w m h g = cc

@@ -16,20 +16,20 @@ use Rattle.px_value.specs.declared.method.GroupByMethod.TheVariants.{Min, Max, S
 use Rattle.px_frame.specs.Cell.{Cell, unit, rows, value_of_cell}
 use Rattle.px_frame.specs.External.{Frame, height, scope_of, rows_of_frame}
 use Rattle.px_frame.specs.Frame.{height_of, series_at}
-use Rattle.px_expression.specs.Node.{is_unit_cell, function_cell, reduction_cell}
-use Rattle.px_expression.specs.Nodes.{leaf_names}
-use Rattle.px_expression.specs.Partition.{is_elementwise, are_elementwise, is_row_function, is_merged_method, inner_rows, merged_by}
-use Rattle.px_expression.specs.Shape.{is_unit, is_unit_first, are_units, is_literal_tree, are_literal_trees, has_implode}
-use Rattle.px_expression.specs.Tree.{Tree, Trees, no_trees, one_tree, column, literal, alias, binary, ternary, cast, function, filter, slice, gather, sort, sort_by, agg, len, window}
-use Rattle.px_expression.specs.Typing.{Scope, kind_in, kinds_in, made_kind, refusals_of, refused_where, grouped_reduction_refusals, implode_refusal}
-use Rattle.px_expression.specs.Value.{value_on, outcome_on, made, cells_on, first_kind, is_misfit}
-use Rattle.px_expression.specs.declared.context.Context.TheVariants.{Aggregation}
-use Rattle.px_expression.specs.declared.function.FunctionExpr.{FunctionExpr}
-use Rattle.px_expression.specs.declared.function.FunctionExpr.TheVariants.{IsNull, IsNotNull, Not, IsBetween, IsIn, Reverse, Shift, DropNulls, NullCount, Explode}
+use Rattle.px_tree.specs.Node.{is_unit_cell, function_cell, reduction_cell}
+use Rattle.px_tree.specs.Nodes.{leaf_names}
+use Rattle.px_tree.specs.Partition.{is_elementwise, are_elementwise, is_row_function, is_merged_method, inner_rows, merged_by}
+use Rattle.px_tree.specs.Shape.{is_unit, is_unit_first, are_units, is_literal_tree, are_literal_trees, has_implode}
+use Rattle.px_tree.specs.Tree.{Tree, called, by_name, Trees, no_trees, one_tree, column, literal, alias, binary, ternary, cast, function, filter, slice, gather, sort, sort_by, agg, len, window}
+use Rattle.px_tree.specs.Typing.{Scope, kind_in, kinds_in, made_kind, refusals_of, refused_where, grouped_reduction_refusals, implode_refusal}
+use Rattle.px_tree.specs.Value.{value_on, outcome_on, made, cells_on, first_kind, is_misfit}
+use Rattle.px_tree.specs.declared.context.Context.TheVariants.{Aggregation}
+use Rattle.px_tree.specs.declared.function.FunctionExpr.{FunctionExpr}
+use Rattle.px_tree.specs.declared.function.FunctionExpr.TheVariants.{IsNull, IsNotNull, Not, IsBetween, IsIn, Reverse, Shift, DropNulls, NullCount, Explode}
 use Rattle.px_laws.proofs.Defined.{scope_of_rows}
 use Rattle.px_laws.proofs.Joining.{under_name, value_joins}
 use Rattle.px_value.specs.FitLaws.{both as both_true}
-use Rattle.px_expression.specs.KindLaws.{none_left, none_right, none_first, none_own}
+use Rattle.px_tree.specs.KindLaws.{none_left, none_right, none_first, none_own}
 use Rattle.px_laws.proofs.RowCount.{value_long}
 use Rattle.px_laws.proofs.Shapes.{bound, made_bound, made_ok, shape_of_value}
 use Rattle.px_laws.proofs.Sums.{sum_merges, count_merges}
@@ -61,7 +61,7 @@ one_unit (one_tree t (one_tree r ts)) frame a u h =
     cc
 
 -- a row function whose value is a unit has units alone
-all_units : (f : FunctionExpr) (k : Kind) (es : Trees) (frame : Frame) (cs : List Cell) (c : Cell) → is_row_function f ≡ true → is_unit (function es f) ≡ true → cells_on es frame ≡ Some cs → function_cell f k cs ≡ Ok c → are_units es ≡ true
+all_units : (f : FunctionExpr) (k : Kind) (es : Trees) (frame : Frame) (cs : List Cell) (c : Cell) → is_row_function f ≡ true → is_unit (function es (by_name f)) ≡ true → cells_on es frame ≡ Some cs → function_cell f k cs ≡ Ok c → are_units es ≡ true
 all_units IsNull k es frame [] c w u h g = cc
 all_units IsNull k es frame (a ∷ []) c w u h g = one_unit es frame a u h
 all_units IsNull k es frame (a ∷ b ∷ cs) c w u h g = cc
@@ -106,10 +106,10 @@ mutual
       let x = made_bound (made (outcome_on e frame)) _ c k.2 in
       literal_unit e s frame x.0 w u x.1
   literal_unit (function es f) s frame c w u h =
-      let ew = both_true (is_row_function f) (are_elementwise es s) w in
+      let ew = both_true (is_row_function (called f)) (are_elementwise es s) w in
       let k = made_bound (kinds_in es (scope_of frame)) _ c h in
       let x = made_bound (cells_on es frame) _ c k.2 in
-      literal_units es s frame x.0 ew.1 (all_units f (first_kind k.0) es frame x.0 c ew.0 u x.1 (made_ok _ c x.2)) x.1
+      literal_units es s frame x.0 ew.1 (all_units (called f) (first_kind k.0) es frame x.0 c ew.0 u x.1 (made_ok _ c x.2)) x.1
   literal_unit (filter e by) s frame c w u h = cc
   literal_unit (slice e offset size) s frame c w u h = cc
   literal_unit (gather e idx one) s frame c w u h = cc

@@ -5,9 +5,9 @@ use Rattle.std.proofs.lemmas.List.FromFn.{length-map-range_with_len}
 use Rattle.px_value.specs.Datum.{integer}
 use Rattle.px_value.specs.Kind.{Kind, fits}
 use Rattle.px_frame.specs.External.{Frame}
-use Rattle.px_expression.specs.Node.{integers, natural}
-use Rattle.px_expression.specs.Size.{size_on}
-use Rattle.px_expression.specs.Tree.{literal, range}
+use Rattle.px_tree.specs.Node.{integers, natural}
+use Rattle.px_tree.specs.Size.{size_on}
+use Rattle.px_tree.specs.Tree.{literal, range}
 
 length_integers : (low high : ℤ) → length (integers low high) ≡ natural (high -ℤ low)
 length_integers low high = length-map-range_with_len (λ i. Some (integer (low +ℤ pos i))) 0 (natural (high -ℤ low))

@@ -13,14 +13,14 @@ use Rattle.px_frame.specs.Cell.{Cell, unit, rows}
 use Rattle.px_frame.specs.External.{Frame, look_in, scope_of, rows_of_frame}
 use Rattle.px_frame.specs.Frame.{slots_at}
 use Rattle.px_frame.specs.Spread.{spread, rows_beside}
-use Rattle.px_expression.specs.Node.{chosen, is_unit_cell, cell_of, map_cell, zip_cells, zip_three_cells, cast_cell, function_cell}
-use Rattle.px_expression.specs.Nodes.{leaf_names, all_leaf_names}
-use Rattle.px_expression.specs.Partition.{is_elementwise, are_elementwise, is_row_function}
-use Rattle.px_expression.specs.Tree.{Tree, Trees, Literal, single, range, series, no_trees, one_tree, column, literal, alias, binary, ternary, cast, function, filter, slice, gather, sort, sort_by, agg, len, window}
-use Rattle.px_expression.specs.Typing.{Scope, kind_in, kinds_in}
-use Rattle.px_expression.specs.Value.{value_on, outcome_on, made, cells_on, first_kind, is_misfit}
-use Rattle.px_expression.specs.declared.function.FunctionExpr.{FunctionExpr}
-use Rattle.px_expression.specs.declared.function.FunctionExpr.TheVariants.{IsNull, IsNotNull, Not, IsBetween, IsIn, Reverse, Shift, DropNulls, NullCount, Explode}
+use Rattle.px_tree.specs.Node.{chosen, is_unit_cell, cell_of, map_cell, zip_cells, zip_three_cells, cast_cell, function_cell}
+use Rattle.px_tree.specs.Nodes.{leaf_names, all_leaf_names}
+use Rattle.px_tree.specs.Partition.{is_elementwise, are_elementwise, is_row_function}
+use Rattle.px_tree.specs.Tree.{Tree, called, Trees, Literal, single, range, series, no_trees, one_tree, column, literal, alias, binary, ternary, cast, function, filter, slice, gather, sort, sort_by, agg, len, window}
+use Rattle.px_tree.specs.Typing.{Scope, kind_in, kinds_in}
+use Rattle.px_tree.specs.Value.{value_on, outcome_on, made, cells_on, first_kind, is_misfit}
+use Rattle.px_tree.specs.declared.function.FunctionExpr.{FunctionExpr}
+use Rattle.px_tree.specs.declared.function.FunctionExpr.TheVariants.{IsNull, IsNotNull, Not, IsBetween, IsIn, Reverse, Shift, DropNulls, NullCount, Explode}
 use Rattle.px_laws.proofs.Joining.{same_list, neither, no_misfits, column_rows, under_name, before_parts, items_first, both_ok, length_zip}
 use Rattle.px_value.specs.FitLaws.{both as both_true}
 use Rattle.px_laws.proofs.Shapes.{bound, made_bound, made_ok, result_bound}
@@ -168,10 +168,10 @@ mutual
       let x = made_bound (made (outcome_on e (rows_of_frame frame p))) _ c k.2 in
       cast_long k.0 to o (length p) x.0 c (value_long e s frame p x.0 w m x.1) (made_ok _ c x.2)
   value_long (function es f) s frame p c w m h =
-      let ew = both_true (is_row_function f) (are_elementwise es s) w in
+      let ew = both_true (is_row_function (called f)) (are_elementwise es s) w in
       let k = made_bound (kinds_in es (scope_of (rows_of_frame frame p))) _ c h in
       let x = made_bound (cells_on es (rows_of_frame frame p)) _ c k.2 in
-      function_long f (first_kind k.0) (length p) x.0 c ew.0 (cells_long es s frame p x.0 ew.1 m x.1) (made_ok _ c x.2)
+      function_long (called f) (first_kind k.0) (length p) x.0 c ew.0 (cells_long es s frame p x.0 ew.1 m x.1) (made_ok _ c x.2)
   value_long (filter e by) s frame p c w m h = cc
   value_long (slice e offset size) s frame p c w m h = cc
   value_long (gather e idx one) s frame p c w m h = cc

@@ -20,17 +20,17 @@ use Rattle.px_value.specs.declared.sort_options.SortMultipleOptions.{SortMultipl
 use Rattle.px_frame.specs.Cell.{Cell, unit, rows, list_of}
 use Rattle.px_frame.specs.External.{Frame, height, look_in, scope_of}
 use Rattle.px_frame.specs.Spread.{spread, rows_beside}
-use Rattle.px_expression.specs.Node.{chosen, is_unit_cell, cell_of, map_cell, zip_cells, zip_three_cells, literal_cell, integers, cast_cell, function_cell, filter_cell, slice_cell, one_value, offset_of, length_of, gather_cell, is_null_unit, is_index, indexed, sort_by_cell, spread_keys, reduction_cell}
-use Rattle.px_expression.specs.Window.{window_cell, placed}
-use Rattle.px_expression.specs.Shape.{is_unit, is_unit_first, are_units, is_single, is_implode, is_literal_tree}
-use Rattle.px_expression.specs.Tree.{Tree, Trees, Literal, single, range, series, no_trees, one_tree, column, literal, alias, binary, ternary, cast, function, filter, slice, gather, sort, sort_by, agg, len, window}
-use Rattle.px_expression.specs.declared.function.FunctionExpr.{FunctionExpr}
-use Rattle.px_expression.specs.declared.function.FunctionExpr.TheVariants.{IsNull, IsNotNull, Not, IsBetween, IsIn, Reverse, Shift, DropNulls, NullCount, Explode}
-use Rattle.px_expression.specs.declared.window.WindowMapping.{WindowMapping}
-use Rattle.px_expression.specs.declared.window.WindowMapping.TheVariants as win
-use Rattle.px_expression.specs.declared.window.WindowMapping.TheVariants.{GroupsToRows, Join}
-use Rattle.px_expression.specs.Value.{value_on, outcome_on, made, cells_on, named_on, order_on, first_kind, whole_window, window_parts}
-use Rattle.px_expression.specs.Typing.{kind_in, kinds_in}
+use Rattle.px_tree.specs.Node.{chosen, is_unit_cell, cell_of, map_cell, zip_cells, zip_three_cells, literal_cell, integers, cast_cell, function_cell, filter_cell, slice_cell, one_value, offset_of, length_of, gather_cell, is_null_unit, is_index, indexed, sort_by_cell, spread_keys, reduction_cell}
+use Rattle.px_tree.specs.Window.{window_cell, placed}
+use Rattle.px_tree.specs.Shape.{is_unit, is_unit_first, are_units, is_single, is_implode, is_literal_tree}
+use Rattle.px_tree.specs.Tree.{Tree, called, by_name, Trees, Literal, single, range, series, no_trees, one_tree, column, literal, alias, binary, ternary, cast, function, filter, slice, gather, sort, sort_by, agg, len, window}
+use Rattle.px_tree.specs.declared.function.FunctionExpr.{FunctionExpr}
+use Rattle.px_tree.specs.declared.function.FunctionExpr.TheVariants.{IsNull, IsNotNull, Not, IsBetween, IsIn, Reverse, Shift, DropNulls, NullCount, Explode}
+use Rattle.px_tree.specs.declared.window.WindowMapping.{WindowMapping}
+use Rattle.px_tree.specs.declared.window.WindowMapping.TheVariants as win
+use Rattle.px_tree.specs.declared.window.WindowMapping.TheVariants.{GroupsToRows, Join}
+use Rattle.px_tree.specs.Value.{value_on, outcome_on, made, cells_on, named_on, order_on, first_kind, whole_window, window_parts}
+use Rattle.px_tree.specs.Typing.{kind_in, kinds_in}
 
 -- what comes next is there where what came before is
 pub bound : {A B : Type 0} (o : Option A) (f : A → Option B) (b : B) → (o >>= f) ≡ Some b → (a : A) × (o ≡ Some a) × (f a ≡ Some b)
@@ -171,7 +171,7 @@ and_true true true false = refl
 and_true true false c = refl
 and_true false b c = refl
 
-shape-function : (f : FunctionExpr) (k : Kind) (es : Trees) (cs : List Cell) (c : Cell) → Shaped es cs → function_cell f k cs ≡ Ok c → is_unit_cell c ≡ is_unit (function es f)
+shape-function : (f : FunctionExpr) (k : Kind) (es : Trees) (cs : List Cell) (c : Cell) → Shaped es cs → function_cell f k cs ≡ Ok c → is_unit_cell c ≡ is_unit (function es (by_name f))
 shape-function IsNull k es [] c s e = cc
 shape-function IsNull k es (a ∷ []) c s e = shape-same (map_cell is_null_slot a) c e ∙ shape-map_cell is_null_slot a ∙ first_shape es a [] s
 shape-function IsNull k es (a ∷ b ∷ cs) c s e = cc
@@ -242,7 +242,7 @@ mutual
   shape_of_value (function es f) frame c h =
       let ks = made_bound (kinds_in es (scope_of frame)) _ c h in
       let cs = made_bound (cells_on es frame) _ c ks.2 in
-      shape-function f (first_kind ks.0) es cs.0 c (shapes_of_cells es frame cs.0 cs.1) (made_ok _ c cs.2)
+      shape-function (called f) (first_kind ks.0) es cs.0 c (shapes_of_cells es frame cs.0 cs.1) (made_ok _ c cs.2)
   shape_of_value (filter e by) frame c h =
       let a = made_bound (made (outcome_on e frame)) _ c h in
       let mask = made_bound (made (outcome_on by frame)) _ c a.2 in

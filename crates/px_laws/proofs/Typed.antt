@@ -13,19 +13,19 @@ use Rattle.px_frame.specs.Cell.{Cell, unit, rows}
 use Rattle.px_frame.specs.External.{Frame, look_in, scope_of, rows_of_frame, with_field}
 use Rattle.px_frame.specs.Frame.{look, has_name, name_eq, slots_at}
 use Rattle.px_frame.specs.Schema.{FieldKind, column_field, has_field_name, is_field_name}
-use Rattle.px_expression.specs.Node.{chosen, binary_cell}
-use Rattle.px_expression.specs.Nodes.{leaf_names}
-use Rattle.px_expression.specs.Partition.{is_elementwise, are_elementwise, is_row_function}
-use Rattle.px_expression.specs.Tree.{Tree, Literal, single, range, series, column, literal, alias, binary, ternary, cast, function, filter, slice, gather, sort, sort_by, agg, len, window}
-use Rattle.px_expression.specs.Typing.{Scope, kind_in, kinds_in, kind_of_name, refusals_of, refused_where, refusal_of, refusal_of_two, fails}
-use Rattle.px_expression.specs.Value.{value_on, outcome_on, made, cells_on, first_kind, is_misfit}
-use Rattle.px_expression.specs.declared.context.Context.TheVariants.{Aggregation}
+use Rattle.px_tree.specs.Node.{chosen, binary_cell}
+use Rattle.px_tree.specs.Nodes.{leaf_names}
+use Rattle.px_tree.specs.Partition.{is_elementwise, are_elementwise, is_row_function}
+use Rattle.px_tree.specs.Tree.{Tree, called, Literal, single, range, series, column, literal, alias, binary, ternary, cast, function, filter, slice, gather, sort, sort_by, agg, len, window}
+use Rattle.px_tree.specs.Typing.{Scope, kind_in, kinds_in, kind_of_name, refusals_of, refused_where, refusal_of, refusal_of_two, fails}
+use Rattle.px_tree.specs.Value.{value_on, outcome_on, made, cells_on, first_kind, is_misfit}
+use Rattle.px_tree.specs.declared.context.Context.TheVariants.{Aggregation}
 use Rattle.px_laws.proofs.Beside.{scope_stays}
 use Rattle.px_laws.proofs.Defined.{scope_of_rows, missing_stays}
 use Rattle.px_laws.proofs.Extremes.{kind_sort, slot_fits_sort}
 use Rattle.px_laws.proofs.Joining.{neither, no_misfits, column_rows, under_name}
 use Rattle.px_value.specs.FitLaws.{both as both_true}
-use Rattle.px_expression.specs.KindLaws.{none_left, none_right, none_first, none_own, kind_there}
+use Rattle.px_tree.specs.KindLaws.{none_left, none_right, none_first, none_own, kind_there}
 use Rattle.px_laws.proofs.Shapes.{bound, made_bound, made_ok}
 use Rattle.px_laws.proofs.Sorted.{is_cell_of, operated_sorted, cast_sorted, zip_sorted, three_sorted, choice_sorted, any_sorted, function_sorted, row_function_kind, rows_sorted, unit_sorted, as_kind}
 use Rattle.px_laws.specs.Fitting.{is_fitting, has_fitting_columns, is_fitting_literal, has_fitting_literals}
@@ -184,11 +184,11 @@ value_sorted (cast e to o) frame p k c w m fit lits r kind h =
     let same : to ≡ k = cc in
     subst (λ t. is_cell_of (kind_sort t) c ≡ true) same (cast_sorted v.0 to o a.0 c (made_ok _ c a.2))
 value_sorted (function es f) frame p k c w m fit lits r kind h =
-    let ew = both_true (is_row_function f) (are_elementwise es (scope_of frame)) w in
+    let ew = both_true (is_row_function (called f)) (are_elementwise es (scope_of frame)) w in
     let ks = bound (kinds_in es (scope_of frame)) _ k kind in
     let v = made_bound (kinds_in es (scope_of (rows_of_frame frame p))) _ c h in
     let a = made_bound (cells_on es (rows_of_frame frame p)) _ c v.2 in
-    subst (λ t. is_cell_of (kind_sort t) c ≡ true) (row_function_kind f ks.0 k ew.0 ks.2) (function_sorted f (first_kind v.0) a.0 c ew.0 (made_ok _ c a.2))
+    subst (λ t. is_cell_of (kind_sort t) c ≡ true) (row_function_kind (called f) ks.0 k ew.0 ks.2) (function_sorted (called f) (first_kind v.0) a.0 c ew.0 (made_ok _ c a.2))
 value_sorted (filter e by) frame p k c w m fit lits r kind h = cc
 value_sorted (slice e offset size) frame p k c w m fit lits r kind h = cc
 value_sorted (gather e idx one) frame p k c w m fit lits r kind h = cc

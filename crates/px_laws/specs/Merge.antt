@@ -7,11 +7,11 @@ use Rattle.px_value.specs.Option.{each}
 use Rattle.px_value.specs.declared.method.GroupByMethod.TheVariants.{Min, Max}
 use Rattle.px_frame.specs.Cell.{value_of_cell}
 use Rattle.px_frame.specs.External.{Frame, scope_of, rows_of_frame}
-use Rattle.px_expression.specs.Partition.{is_partition_safe, merged}
-use Rattle.px_expression.specs.Tree.{Tree, alias, agg}
-use Rattle.px_expression.specs.Typing.{kind_in, refusals_of}
-use Rattle.px_expression.specs.Value.{value_on, has_misfit}
-use Rattle.px_expression.specs.declared.context.Context.TheVariants.{Aggregation}
+use Rattle.px_tree.specs.Partition.{is_partition_safe, merged}
+use Rattle.px_tree.specs.Tree.{Tree, alias, agg}
+use Rattle.px_tree.specs.Typing.{kind_in, refusals_of}
+use Rattle.px_tree.specs.Value.{value_on, has_misfit}
+use Rattle.px_tree.specs.declared.context.Context.TheVariants.{Aggregation}
 
 -- a part that has rows
 abbrev pub has_rows : List ℕ → Bool

@@ -4,9 +4,9 @@ ghost use Rattle.px_value.specs.Kind.{Kind};
 ghost use Rattle.px_frame.specs.External.{Frame};
 ghost use Rattle.px_laws.specs.Fitting.{has_fitting_columns, has_fitting_literals};
 ghost use Rattle.px_laws.specs.Merge.{is_extreme, OnParts, PartsMerge};
-ghost use Rattle.px_expression.specs.View.{tree};
+ghost use Rattle.px_tree.specs.View.{tree};
 
-use px_expression::Expr;
+use px_tree::Expr;
 
 /// The values of a partition safe expression on parts of a frame's rows, merged, are its value on the rows of
 /// all parts: a sum, a count with nulls, a length, a first or last value or an Implode whatever the frame

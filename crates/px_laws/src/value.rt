@@ -6,18 +6,18 @@ ghost use Rattle.px_value.specs.Datum.{integer};
 ghost use Rattle.px_value.specs.Kind.{Kind, fits};
 ghost use Rattle.px_frame.specs.Cell.{Cell};
 ghost use Rattle.px_frame.specs.External.{Frame, scope_of};
-ghost use Rattle.px_expression.specs.Node.{is_unit_cell, natural};
+ghost use Rattle.px_tree.specs.Node.{is_unit_cell, natural};
 ghost use Rattle.px_laws.specs.Beside.{are_columns_of, beside};
-ghost use Rattle.px_expression.specs.Nodes.{leaf_names};
-ghost use Rattle.px_expression.specs.Shape.{is_unit, name_of};
-ghost use Rattle.px_expression.specs.Size.{size_on};
-ghost use Rattle.px_expression.specs.Tree.{alias, literal, range};
-ghost use Rattle.px_expression.specs.Typing.{refusals_of};
-ghost use Rattle.px_expression.specs.Value.{faults_on, value_on};
-ghost use Rattle.px_expression.specs.View.{tree};
-ghost use Rattle.px_expression.specs.declared.context.Context.TheVariants.{Default};
+ghost use Rattle.px_tree.specs.Nodes.{leaf_names};
+ghost use Rattle.px_tree.specs.Shape.{is_unit, name_of};
+ghost use Rattle.px_tree.specs.Size.{size_on};
+ghost use Rattle.px_tree.specs.Tree.{alias, literal, range};
+ghost use Rattle.px_tree.specs.Typing.{refusals_of};
+ghost use Rattle.px_tree.specs.Value.{faults_on, value_on};
+ghost use Rattle.px_tree.specs.View.{tree};
+ghost use Rattle.px_tree.specs.declared.context.Context.TheVariants.{Default};
 
-use px_expression::Expr;
+use px_tree::Expr;
 
 /// The value of an expression is a unit exactly where the expression alone says so, whatever the frame.
 #[tactic(auto, using(crate::proofs::Shapes::shape_of_value))]

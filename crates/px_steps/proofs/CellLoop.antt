@@ -11,7 +11,7 @@ use Rattle.px_frame.specs.CellView.{named_cell}
 use Rattle.px_frame.specs.External.{Frame}
 use Rattle.px_frame.specs.Spread.{NamedCell}
 use Rattle.px_frame.specs.declared.cell.Cell.{Cell}
-use Rattle.px_expression.specs.Value.{faults_on}
+use Rattle.px_tree.specs.Value.{faults_on}
 use Rattle.px_steps.specs.Causes.{IsCauseOfAny}
 use Rattle.px_document.specs.Form.{with_front}
 use Rattle.px_steps.specs.Plain.{named_value}

@@ -1,5 +1,6 @@
 -- A group step's keys and columns: what they are, and what the step answers.
-use Rattle.std.proofs.Common.{◌≡◌, ◌⊎◌, inl, inr, ℕ, zero, suc, ◌<◌, ◌==◌, Bool, true, false, not, ◌&&◌, List, [], ◌∷◌, ◌++◌, Option, Some, None, Result, Ok, Err, length, option_map, option_and_then, map, refl, sym, ◌∙◌, ap, subst, arith, append_assoc, replicate, if◌then◌else◌}
+use Rattle.std.proofs.Common.{◌≡◌, ◌⊎◌, inl, inr, ℕ, zero, suc, ◌<◌, ◌^◌, ◌==◌, Bool, true, false, not, ◌&&◌, List, [], ◌∷◌, ◌++◌, Option, Some, None, Result, Ok, Err, length, option_map, option_and_then, map, refl, sym, ◌∙◌, ap, subst, arith, append_assoc, replicate, if◌then◌else◌}
+use Rattle.std.specs.Prelude.{IfOk}
 use Rattle.std.specs.List.{flat_map, list_all, list_any}
 use Rattle.std.specs.Option.{option_map_or}
 use Rattle.std.specs.Result.{result_ok}
@@ -13,7 +14,7 @@ use Rattle.px_value.specs.declared.error.PxError.{PxError}
 use Rattle.px_value.specs.declared.error.PxError.TheVariants.{Duplicate, InvalidOperation, ComputeError, ShapeMismatch, OutOfMemory}
 use Rattle.px_value.specs.declared.error.InvalidWhy.TheVariants.{ListKey}
 use Rattle.px_value.specs.declared.error.ComputeWhy.TheVariants.{NoKey}
-use Rattle.px_expr.specs.Built.{is_built_tree}
+use Rattle.px_tree.specs.Built.{is_built_tree}
 use Rattle.px_expr.specs.Plan.{planned_over}
 use Rattle.px_expr.specs.Planned.{Planned}
 use Rattle.px_expr.specs.Value.{IsCause, IsOneOf}
@@ -25,29 +26,29 @@ use Rattle.px_frame.specs.Groups.{Groups, groups_by, rows_of}
 use Rattle.px_frame.specs.Parts.{parts_of}
 use Rattle.px_frame.specs.Schema.{column_field}
 use Rattle.px_frame.specs.Spread.{NamedCell, spread, spread_column, with_slots}
-use Rattle.px_expression.specs.Shape.{name_of}
-use Rattle.px_expression.specs.Size.{size_on}
-use Rattle.px_expression.specs.Tree.{Tree}
-use Rattle.px_expression.specs.View.{tree}
-use Rattle.px_expression.specs.declared.expr.Expr.{Expr}
-use Rattle.px_expression.specs.Typing.{Scope, fails, first_or_kind, kind_in, not_list, refusals_of, refused_where, type_of}
-use Rattle.px_expression.specs.Value.{faults_on, value_on}
-use Rattle.px_expression.specs.declared.context.Context.{Context}
-use Rattle.px_expression.specs.declared.context.Context.TheVariants.{Aggregation, Default}
+use Rattle.px_tree.specs.Shape.{name_of}
+use Rattle.px_tree.specs.Size.{size_on}
+use Rattle.px_tree.specs.Tree.{Tree}
+use Rattle.px_tree.specs.View.{tree}
+use Rattle.px_tree.specs.declared.expr.Expr.{Expr}
+use Rattle.px_tree.specs.Typing.{Scope, fails, first_or_kind, kind_in, not_list, refusals_of, refused_where, type_of}
+use Rattle.px_tree.specs.Value.{faults_on, value_on}
+use Rattle.px_tree.specs.declared.context.Context.{Context}
+use Rattle.px_tree.specs.declared.context.Context.TheVariants.{Aggregation, Default}
 use Rattle.px_steps.specs.Finds.{is_key}
 use Rattle.px_steps.specs.Causes.{IsStepCause, StepAnswers}
 use Rattle.px_steps.specs.Finds.{Finds, IsAccepted, Lacks, key_faults, part_faults, part_frames, repeat_beside, typed_key_refusals}
 use Rattle.px_document.specs.Form.{with_front}
 use Rattle.px_steps.specs.Meets.{IsFirst}
 use Rattle.px_steps.specs.Plain.{agg_refusals, aggregated_on, columns_on, first_of, frames_by, greatest, grouped_kind, height_fault, key_on, key_refusals, key_values, named_value, no_key_refusal, refused_by, repeat_refusal, step_faults, step_refusals, value_on_part, group_frames}
-use Rattle.px_document.specs.Step.{group}
+use Rattle.px_tree.specs.Step.{group}
 use Rattle.px_steps.proofs.Columns.{all_append, all_true, and_then_some, heights_of_keys, keys_of_groups, made_each, names_of_keys, rows_of_groups}
 use Rattle.px_frame.specs.LookLaws.{has_length}
 use Rattle.px_frame.specs.LookLaws.{even_from}
 use Rattle.px_steps.proofs.Grouping.{accepted_lacks, no_refusal, value_there}
 use Rattle.px_steps.proofs.Selected.{name_kept, no_misfits, once_none, one_left, one_right, refuses_or}
 use Rattle.px_steps.proofs.Named.{IsFirst_append, refuses_first, refuses_none}
-use Rattle.px_expression.specs.KindLaws.{There, kind_there, none_left as nil_left, none_right as nil_right}
+use Rattle.px_tree.specs.KindLaws.{There, kind_there, none_left as nil_left, none_right as nil_right}
 use Rattle.std.proofs.lemmas.List.{append-nil as append_nil, map-append as map_append}
 
 -- a name of some more that stands twice
@@ -299,17 +300,21 @@ module _ (cs : List Series) (keys aggs : List Tree) (none : step_refusals (group
 
     pub group_answer : (r : Result (List Series) PxError) → flat_map (key_faults (alone cs)) keys ≡ []
         → Finds r (columns_on (alone cs) aggs by) (flat_map (part_faults (alone cs) (parts_of by (height_of cs))) aggs) (greatest (map (λ t. size_on t (part_frames (alone cs) (parts_of by (height_of cs)))) aggs))
-        → StepAnswers r (group keys aggs None) cs
-    group_answer (Ok f) sound h =
-        let k = keys_sound (alone cs) keys sound in (
-          record { accepted = accepted; sound = λ i. ((k.0 i ++ k.1 i) ++ (agg_faults ∙ h.0) i) ++ no_misfits cs (keys ++ aggs) i },
-          ap (λ o. option_map (λ columns. record (alone cs) { columns = columns }) (option_and_then (columns_on (alone cs) aggs) o)) made
-              ∙ ap (λ o. option_map (λ columns. record (alone cs) { columns = columns }) o) h.1,
-        )
-    group_answer (Err e) sound (inl m) = inl m
-    group_answer (Err e) sound (inr (inl o)) =
+        → IfOk r (λ f. height_of f < 2 ^ 32) → StepAnswers r (group keys aggs None) cs
+    group_answer (Ok f) sound h short =
+        let k = keys_sound (alone cs) keys sound in
+        record {
+          accepted = accepted;
+          sound = λ i. ((k.0 i ++ k.1 i) ++ (agg_faults ∙ h.0) i) ++ no_misfits cs (keys ++ aggs) i;
+          made =
+            ap (λ o. option_map (λ columns. record (alone cs) { columns = columns }) (option_and_then (columns_on (alone cs) aggs) o)) made
+                ∙ ap (λ o. option_map (λ columns. record (alone cs) { columns = columns }) o) h.1;
+          short = short;
+        }
+    group_answer (Err e) sound (inl m) short = inl m
+    group_answer (Err e) sound (inr (inl o)) short =
         fault_told e (one_left e ((key_values_faults ++ key_height_faults) ++ part_value_faults) _ (one_right e (key_values_faults ++ key_height_faults) part_value_faults (subst (IsOneOf e) (sym agg_faults) o)))
-    group_answer (Err e) sound (inr (inr l)) =
+    group_answer (Err e) sound (inr (inr l)) short =
         let size : greatest (map (λ t. size_on t (frames_by (alone cs) keys)) aggs) ≡ greatest (map (λ t. size_on t (part_frames (alone cs) (parts_of by (height_of cs)))) aggs) = ap (λ (fs : List Frame). greatest (map (λ t. size_on t fs) aggs)) frames in
         inr (inr (accepted, inr (l.0, omega (arith, l.1, size))))
 

@@ -3,11 +3,11 @@ use Rattle.std.proofs.Common.{◌≡◌, ℕ, Bool, true, false, ◌&&◌, List,
 use Rattle.std.specs.List.{list_all}
 use Rattle.px_value.specs.Series.{Series}
 use Rattle.px_value.specs.declared.error.PxError.{PxError}
-use Rattle.px_expr.specs.Built.{is_built_tree}
-use Rattle.px_expression.specs.Tree.{Tree}
-use Rattle.px_document.specs.Built.{is_built}
+use Rattle.px_tree.specs.Built.{is_built_tree}
+use Rattle.px_tree.specs.Tree.{Tree}
+use Rattle.px_tree.specs.Built.{is_built}
 use Rattle.px_steps.specs.Causes.{StepAnswers}
-use Rattle.px_document.specs.Step.{PlainStep, group}
+use Rattle.px_tree.specs.Step.{PlainStep, group}
 use Rattle.px_value.specs.FitLaws.{both}
 
 -- the keys and aggregations of a group step that is run have nodes, and it has no chunks

@@ -12,7 +12,7 @@ use Rattle.px_value.specs.declared.error.PxError.{PxError}
 use Rattle.px_value.specs.declared.error.PxError.TheVariants.{OutOfMemory, ColumnNotFound, Duplicate, InvalidOperation, ComputeError, OutOfBounds, ShapeMismatch, SchemaMismatch}
 use Rattle.px_value.specs.declared.error.InvalidWhy.TheVariants.{Types}
 use Rattle.px_value.specs.declared.method.GroupByMethod.TheVariants.{Sum}
-use Rattle.px_expr.specs.Built.{is_built_tree, is_sum}
+use Rattle.px_tree.specs.Built.{is_built_tree, is_sum}
 use Rattle.px_expr.specs.Plan.{planned_over}
 use Rattle.px_expr.specs.Planned.{Planned}
 use Rattle.px_expr.specs.Value.{IsCause, causes_on}
@@ -22,14 +22,14 @@ use Rattle.px_frame.specs.Frame.{are_below, subframe}
 use Rattle.px_frame.specs.Groups.{Group, IsGroups, is_group}
 use Rattle.px_frame.specs.Schema.{column_field}
 use Rattle.px_frame.specs.Spread.{NamedCell}
-use Rattle.px_expression.specs.Node.{is_unit_cell}
-use Rattle.px_expression.specs.Shape.{is_unit, name_of}
-use Rattle.px_expression.specs.Size.{count_on, counts_on, size_on}
-use Rattle.px_expression.specs.Tree.{Tree, Literal, single, range, series, column, literal, alias, agg, len}
-use Rattle.px_expression.specs.Typing.{Scope, kind_in, grouped_reduction_refusals, first_or_kind, or_first, refusal_of_one, refusals_of, type_of}
-use Rattle.px_expression.specs.Value.{faults_on, value_on}
-use Rattle.px_expression.specs.declared.context.Context.{Context}
-use Rattle.px_expression.specs.declared.context.Context.TheVariants.{Aggregation, Default}
+use Rattle.px_tree.specs.Node.{is_unit_cell}
+use Rattle.px_tree.specs.Shape.{is_unit, name_of}
+use Rattle.px_tree.specs.Size.{count_on, counts_on, size_on}
+use Rattle.px_tree.specs.Tree.{Tree, Literal, single, range, series, column, literal, alias, agg, len}
+use Rattle.px_tree.specs.Typing.{Scope, kind_in, grouped_reduction_refusals, first_or_kind, or_first, refusal_of_one, refusals_of, type_of}
+use Rattle.px_tree.specs.Value.{faults_on, value_on}
+use Rattle.px_tree.specs.declared.context.Context.{Context}
+use Rattle.px_tree.specs.declared.context.Context.TheVariants.{Aggregation, Default}
 use Rattle.px_steps.specs.Direct as direct
 use Rattle.px_steps.specs.DirectLaws.{len_same, sum_refused, sum_same}
 use Rattle.px_steps.specs.Finds.{Finds, FindsBy, FitsGrouped, IsAccepted, Lacks, part_faults, part_frames, value_kind}
@@ -39,7 +39,7 @@ use Rattle.px_steps.proofs.Columns.{map_some}
 use Rattle.px_value.specs.FitLaws.{both}
 use Rattle.px_steps.proofs.Members.{In, in_map, in_one, in_sum}
 use Rattle.px_steps.proofs.Selected.{cause_lacks, faults_alone}
-use Rattle.px_expression.specs.KindLaws.{kind_there, none_first as inputs_none, none_right as nil_right, none_own as own_none}
+use Rattle.px_tree.specs.KindLaws.{kind_there, none_first as inputs_none, none_right as nil_right, none_own as own_none}
 
 -- where there is no refusal, memory was wanting
 pub no_first : (e : PxError) (refusals : List PxError) → refusals ≡ [] → IsFirst e refusals → e ≡ OutOfMemory

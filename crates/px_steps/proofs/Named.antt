@@ -14,9 +14,9 @@ use Rattle.px_value.specs.declared.method.GroupByMethod.TheVariants.{Sum}
 use Rattle.px_frame.specs.Aggregate.{summed_by, summed_by_kind, sums_of, counts_of}
 use Rattle.px_frame.specs.Frame.{has_name, look, series_at, slots_at, subframe}
 use Rattle.px_frame.specs.Groups.{Group, Groups, rows_of}
-use Rattle.px_expression.specs.Shape.{name_of}
+use Rattle.px_tree.specs.Shape.{name_of}
 use Rattle.px_steps.specs.Direct.{aggregated_on, agg_refusals, value_on_part}
-use Rattle.px_expression.specs.Tree.{column, agg, len}
+use Rattle.px_tree.specs.Tree.{column, agg, len}
 use Rattle.px_steps.specs.Meets.{IsFirst, Meets}
 use Rattle.px_steps.specs.Plain.{first_of}
 use Rattle.px_frame.specs.LookLaws.{look_rows as look-subframe}

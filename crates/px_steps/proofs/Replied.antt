@@ -7,8 +7,8 @@ use Rattle.px_value.specs.declared.error.PxError.{PxError}
 use Rattle.px_value.specs.declared.error.PxError.TheVariants.{OutOfMemory}
 use Rattle.px_frame.specs.External.{alone}
 use Rattle.px_frame.specs.Frame.{height_of}
-use Rattle.px_document.specs.Built.{is_built}
-use Rattle.px_steps.specs.Causes.{AreSound, IsCauseIn}
+use Rattle.px_tree.specs.Built.{is_built}
+use Rattle.px_steps.specs.Causes.{AreRun, IsCauseIn}
 use Rattle.px_document.specs.Document.{Doc}
 use Rattle.px_document.specs.Label.{line_of}
 use Rattle.px_steps.specs.Plain.{groupings_of, plain_on}
@@ -24,8 +24,8 @@ document_built bytes doc is = is.says.readable
 pub one_document : (bytes : List ℕ) (doc other : Doc) → IsDocument bytes doc → IsDocument bytes other → doc ≡ other
 one_document bytes doc other is also = let a = is.says.says in let b = also.says.says in cc
 
-pub is_result : (bytes text : List ℕ) (doc : Doc) (made : List Series) → IsDocument bytes doc → AreSound doc.steps (alone doc.columns) → plain_on doc.steps (alone doc.columns) ≡ Some (alone made) → text ≡ text_of made (height_of made) → IsResult bytes text
-is_result bytes text doc made is sound plain written = record { doc = doc; document = is; sound = sound; made = made; plain = plain; written = written }
+pub is_result : (bytes text : List ℕ) (doc : Doc) (made : List Series) → IsDocument bytes doc → AreRun doc.steps (alone doc.columns) (alone made) → plain_on doc.steps (alone doc.columns) ≡ Some (alone made) → text ≡ text_of made (height_of made) → IsResult bytes text
+is_result bytes text doc made is run plain written = record { doc = doc; document = is; made = made; run = run; plain = plain; written = written }
 
 pub is_refusal : (bytes text : List ℕ) (doc : Doc) (e : PxError) → IsDocument bytes doc → IsCauseIn e doc.steps (alone doc.columns) → (e ≡ OutOfMemory → ⊥) → text ≡ line_of e → IsRefusal bytes text
 is_refusal bytes text doc e is cause told written = record { doc = doc; document = is; fault = e; cause = cause; told = told; written = written }

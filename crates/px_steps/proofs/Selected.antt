@@ -1,6 +1,6 @@
 -- What is known of planned expressions that are not refused: their types, their columns, and why they have no value.
-use Rattle.std.proofs.Common.{◌≡◌, ◌⊎◌, inl, inr, ℕ, Bool, true, false, not, ◌&&◌, ◌||◌, List, [], ◌∷◌, ◌++◌, Option, Some, None, Result, Ok, Err, option_map, option_and_then, map, arith, max, refl, sym, ◌∙◌, ap, subst}
-use Rattle.std.specs.Prelude.{is_none, is_some}
+use Rattle.std.proofs.Common.{◌≡◌, ◌⊎◌, ◌<◌, ◌^◌, inl, inr, ℕ, Bool, true, false, not, ◌&&◌, ◌||◌, List, [], ◌∷◌, ◌++◌, Option, Some, None, Result, Ok, Err, option_map, option_and_then, map, arith, max, refl, sym, ◌∙◌, ap, subst}
+use Rattle.std.specs.Prelude.{IfOk, is_none, is_some}
 use Rattle.std.specs.List.{filter_map, find, flat_map, list_all, list_any}
 use Rattle.std.specs.Option.{option_map_or}
 use Rattle.std.specs.Result.{result_ok}
@@ -13,36 +13,36 @@ use Rattle.px_value.specs.Series.{Series}
 use Rattle.px_value.specs.declared.error.PxError.{PxError}
 use Rattle.px_value.specs.declared.error.PxError.TheVariants.{ColumnNotFound, Duplicate, InvalidOperation, ComputeError, OutOfBounds, ShapeMismatch, SchemaMismatch, OutOfMemory}
 use Rattle.px_value.specs.declared.error.ComputeWhy.TheVariants.{TooLong}
-use Rattle.px_expr.specs.Built.{is_built_tree, is_sum}
+use Rattle.px_tree.specs.Built.{is_built_tree, is_sum}
 use Rattle.px_expr.specs.Plan.{plan_in, planned_over}
 use Rattle.px_expr.specs.Planned.{Planned, is_reserved}
 use Rattle.px_expr.specs.Value.{IsValue, IsCause, IsOneOf, causes_on, unfound_refusal}
 use Rattle.px_frame.specs.External.{Frame, alone, scope_of}
 use Rattle.px_frame.specs.Cell.{Cell}
-use Rattle.px_frame.specs.Frame.{first_repeat, look, unless_repeated}
+use Rattle.px_frame.specs.Frame.{first_repeat, height_of, look, unless_repeated}
 use Rattle.px_frame.specs.Spread.{NamedCell, assembled, rows_beside, spread_all}
 use Rattle.px_frame.specs.Schema.{FieldKind, column_field, has_field_name}
-use Rattle.px_expression.specs.Node.{cell_of}
-use Rattle.px_expression.specs.Nodes.{leaf_names}
-use Rattle.px_expression.specs.Shape.{is_unit, name_of}
-use Rattle.px_expression.specs.Size.{size_on}
-use Rattle.px_expression.specs.Tree.{Tree, column, literal, alias, agg, len}
-use Rattle.px_expression.specs.Typing.{Scope, kind_in, kind_of_name, refusals_of, refused_where, refusal_of, refusal_of_one, made_kind, literal_kind, on_groups, grouped_reduction_refusals, or_first, first_or_kind}
-use Rattle.px_expression.specs.Value.{faults_on, is_misfit, has_misfit, value_on, named}
-use Rattle.px_expression.specs.declared.context.Context.{Context}
-use Rattle.px_expression.specs.declared.context.Context.TheVariants.{Default}
+use Rattle.px_tree.specs.Node.{cell_of}
+use Rattle.px_tree.specs.Nodes.{leaf_names}
+use Rattle.px_tree.specs.Shape.{is_unit, name_of}
+use Rattle.px_tree.specs.Size.{size_on}
+use Rattle.px_tree.specs.Tree.{Tree, column, literal, alias, agg, len}
+use Rattle.px_tree.specs.Typing.{Scope, kind_in, kind_of_name, refusals_of, refused_where, refusal_of, refusal_of_one, made_kind, literal_kind, on_groups, grouped_reduction_refusals, or_first, first_or_kind}
+use Rattle.px_tree.specs.Value.{faults_on, is_misfit, has_misfit, value_on, named}
+use Rattle.px_tree.specs.declared.context.Context.{Context}
+use Rattle.px_tree.specs.declared.context.Context.TheVariants.{Default}
 use Rattle.px_frame.specs.LookLaws.{field_look as field-look}
 use Rattle.px_steps.specs.Meets.{MeetsBy, IsFirst}
 use Rattle.px_steps.specs.Finds.{Lacks}
 use Rattle.px_steps.specs.Causes.{IsCauseOfAny, IsStepCause, StepAnswers}
 use Rattle.px_steps.specs.Plain.{first_of, first_refusal, frame_refusals, greatest, named_value, misfit_faults, refused_by, repeat_refusal, step_on, step_refusals, uneven_fault}
-use Rattle.px_document.specs.Step.{PlainStep, select}
+use Rattle.px_tree.specs.Step.{PlainStep, select}
 use Rattle.px_expr.specs.NodeView.{plan_of}
 use Rattle.px_expr.specs.declared.node.PhysExpr.{PhysExpr}
 use Rattle.px_steps.proofs.Columns.{made_each}
 use Rattle.px_value.specs.FitLaws.{both}
 use Rattle.px_steps.proofs.Named.{IsFirst_append, refuses_first, refuses_none}
-use Rattle.px_expression.specs.KindLaws.{There, kind_there, name_there, none_left as nil_left, none_right as nil_right, none_first as inputs_none, none_own as own_none}
+use Rattle.px_tree.specs.KindLaws.{There, kind_there, name_there, none_left as nil_left, none_right as nil_right, none_first as inputs_none, none_own as own_none}
 
 -- the planner's answer is told by the refusals
 pub planned_meets : {X : Type 0} (view : X → Planned) (t : Tree) (scope : Scope) (place : Context) (r : Result X PxError) → is_built_tree t ≡ true
@@ -267,8 +267,8 @@ refuses_or SchemaMismatch r h = inr h
 
 -- the frame of the values, or the lists that are not as long
 pub selected : (ts : List Tree) (cs : List Series) (cells : List NamedCell) (r : Result (List Series) PxError) → flat_map (frame_refusals (alone cs)) ts ≡ [] → repeat_refusal ts ≡ []
-    → each (named_value (alone cs)) ts ≡ Some cells → flat_map (λ t. faults_on t (alone cs)) ts ≡ [] → Answers r (assembled cells) → StepAnswers r (select ts) cs
-selected ts cs cells r none once values sound a = by r a
+    → each (named_value (alone cs)) ts ≡ Some cells → flat_map (λ t. faults_on t (alone cs)) ts ≡ [] → Answers r (assembled cells) → IfOk r (λ f. height_of f < 2 ^ 32) → StepAnswers r (select ts) cs
+selected ts cs cells r none once values sound a low = by r a low
   where
     distinct : first_repeat [] (map (λ c. c.name) cells) ≡ None
     distinct = ap (first_repeat []) (names_kept (alone cs) ts cells values) ∙ once_none (first_repeat [] (map name_of ts)) once
@@ -293,6 +293,6 @@ selected ts cs cells r none once values sound a = by r a
               (one_right e (flat_map (λ t. faults_on t (alone cs)) ts) _ (subst (IsOneOf e) (sym (uneven (Err e) f)) (inl refl)))),
         ))
 
-    by : (q : Result (List Series) PxError) → Answers q (assembled cells) → StepAnswers q (select ts) cs
-    by (Ok f) h = (record { accepted = accepted ts cs none once; sound = λ i. (sound i ++ uneven (Ok f) h i) ++ no_misfits cs ts i }, made f h)
-    by (Err e) h = fault e (refuses_or e (assembled cells) h)
+    by : (q : Result (List Series) PxError) → Answers q (assembled cells) → IfOk q (λ f. height_of f < 2 ^ 32) → StepAnswers q (select ts) cs
+    by (Ok f) h short = record { accepted = accepted ts cs none once; sound = λ i. (sound i ++ uneven (Ok f) h i) ++ no_misfits cs ts i; made = made f h; short = short }
+    by (Err e) h short = fault e (refuses_or e (assembled cells) h)

@@ -9,22 +9,18 @@ use Rattle.px_value.specs.declared.error.PxError.{PxError}
 use Rattle.px_value.specs.declared.error.PxError.TheVariants.{OutOfMemory}
 use Rattle.px_expr.specs.Value.{IsOneOf}
 use Rattle.px_frame.specs.External.{Frame, alone}
-use Rattle.px_document.specs.Built.{is_built}
-use Rattle.px_steps.specs.Causes.{AreSound, IsCauseIn, IsSound, StandsIn, StepAnswers, StepsAnswer}
+use Rattle.px_tree.specs.Built.{is_built}
+use Rattle.px_steps.specs.Causes.{AreRun, IsCauseIn, StandsIn, StepAnswers, StepsAnswer}
 use Rattle.px_steps.specs.Plain.{AreValid, groupings_in, groupings_of, plain_on, step_on}
-use Rattle.px_document.specs.Step.{PlainStep, step_view}
-use Rattle.px_document.specs.declared.step.Step.{Step}
+use Rattle.px_tree.specs.Step.{PlainStep, step_view}
+use Rattle.px_tree.specs.declared.step.Step.{Step}
 use Rattle.px_value.specs.FitLaws.{both}
-
--- a sound step before sound ones
-sound_first : (s : PlainStep) (steps : List PlainStep) (frame next : Frame) → IsSound s frame → step_on s frame ≡ Some next → AreSound steps next → AreSound (s ∷ steps) frame
-sound_first s steps frame next sound made rest = (sound, λ other e. let same : next ≡ other = cc in subst (AreSound steps) same rest)
 
 -- a step before others that answer
 pub answer_first : (s : PlainStep) (steps : List PlainStep) (cs next : List Series) (r : Result (List Series) PxError) → StepAnswers (Ok next) s cs → StepsAnswer r steps next → StepsAnswer r (s ∷ steps) cs
-answer_first s steps cs next (Ok f) one rest = (sound_first s steps (alone cs) (alone next) one.0 one.1 rest.0, ap (λ o. option_and_then (plain_on steps) o) one.1 ∙ rest.1)
+answer_first s steps cs next (Ok f) one rest = (alone next, (one, rest))
 answer_first s steps cs next (Err e) one (inl m) = inl m
-answer_first s steps cs next (Err e) one (inr c) = inr (inr (one.0, (alone next, (one.1, c))))
+answer_first s steps cs next (Err e) one (inr c) = inr (inr (alone next, (one, c)))
 
 -- the first step has no answer
 pub cause_first : (s : PlainStep) (steps : List PlainStep) (cs : List Series) (e : PxError) → StepAnswers (Err e) s cs → IsCauseIn e (s ∷ steps) (alone cs)
@@ -54,7 +50,7 @@ module _ (steps : List Step) (i : ℕ) (k : Step) (below : i < length steps) (is
 
 -- no step is left
 pub answer_end : (steps : List Step) (i : ℕ) (cs : List Series) → length steps ≤ i → StepsAnswer (Ok cs) (map step_view (drop i steps)) cs
-answer_end steps i cs h = subst (λ (ss : List PlainStep). StepsAnswer (Ok cs) ss cs) (sym (at_drop_all (λ ss. map step_view ss) steps i h)) (tt, refl)
+answer_end steps i cs h = subst (λ (ss : List PlainStep). StepsAnswer (Ok cs) ss cs) (sym (at_drop_all (λ ss. map step_view ss) steps i h)) refl
 
 -- the first of some steps, before the others
 pub answer_whole : (steps : List Step) (k : Step) (cs next : List Series) (r : Result (List Series) PxError) → 1 ≤ length steps → k ≡ get_or steps 0 k → StepAnswers (Ok next) (step_view k) cs
@@ -70,15 +66,20 @@ none_stands [] frame e v h = h
 none_stands (s ∷ steps) frame e v (inl (inl f)) = let no : None ≡ Some e = sym v.0.accepted ∙ f in cc
 none_stands (s ∷ steps) frame e v (inl (inr (a, inl o))) = subst (IsOneOf e) v.0.sound o
 none_stands (s ∷ steps) frame e v (inl (inr (a, inr t))) = omega (arith, v.0.short, t.1)
-none_stands (s ∷ steps) frame e v (inr h) = none_stands steps h.1.0 e (v.1 h.1.0 h.1.1.0) h.1.1.1
+none_stands (s ∷ steps) frame e v (inr h) = none_stands steps h.0 e (v.1 h.0 h.1.0.made) h.1.1
+
+-- steps that are run make their plain frame
+pub run_plain : (steps : List PlainStep) (frame last : Frame) → AreRun steps frame last → plain_on steps frame ≡ Some last
+run_plain [] frame last h = ap Some h
+run_plain (s ∷ steps) frame last h = ap (λ o. option_and_then (plain_on steps) o) h.1.0.made ∙ run_plain steps h.0 last h.1.1
 
 pub plain_told : (r : Result (List Series) PxError) (steps : List PlainStep) (cs : List Series) → StepsAnswer r steps cs → IfOk r (λ f. plain_on steps (alone cs) ≡ Some (alone f))
-plain_told (Ok f) steps cs h = h.1
+plain_told (Ok f) steps cs h = run_plain steps (alone cs) (alone f) h
 plain_told (Err e) steps cs h = tt
 
-pub sound_told : (r : Result (List Series) PxError) (steps : List PlainStep) (cs : List Series) → StepsAnswer r steps cs → OnOk r (AreSound steps (alone cs))
-sound_told (Ok f) steps cs h = h.0
-sound_told (Err e) steps cs h = tt
+pub run_told : (r : Result (List Series) PxError) (steps : List PlainStep) (cs : List Series) → StepsAnswer r steps cs → IfOk r (λ f. AreRun steps (alone cs) (alone f))
+run_told (Ok f) steps cs h = h
+run_told (Err e) steps cs h = tt
 
 pub causes_told : (r : Result (List Series) PxError) (steps : List PlainStep) (cs : List Series) → StepsAnswer r steps cs → IfErr r (λ e. IsCauseIn e steps (alone cs))
 causes_told (Ok f) steps cs h = tt

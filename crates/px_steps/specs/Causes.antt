@@ -1,24 +1,26 @@
--- Steps that are neither refused nor have a fault, and why there may be no answer.
-use Rattle.std.specs.Prelude.{◌≡◌, ◌⊎◌, ◌^◌, ◌≤◌, List, [], ◌∷◌, Some, None, Result, Ok, Err}
+-- Steps that are run one after another, and why there may be no answer.
+use Rattle.std.specs.Prelude.{◌≡◌, ◌⊎◌, ◌^◌, ◌<◌, ◌≤◌, List, [], ◌∷◌, Some, None, Result, Ok, Err}
 use Rattle.px_value.specs.Series.{Series}
 use Rattle.px_value.specs.declared.error.PxError.{PxError}
 use Rattle.px_value.specs.declared.error.PxError.TheVariants.{ComputeError, OutOfMemory}
 use Rattle.px_value.specs.declared.error.ComputeWhy.TheVariants.{TooLong}
 use Rattle.px_expr.specs.Planned.{Planned}
 use Rattle.px_expr.specs.Value.{IsCause, IsOneOf}
-use Rattle.px_frame.specs.External.{Frame, alone}
-use Rattle.px_steps.specs.Plain.{first_refusal, plain_on, step_faults, step_on, step_size}
-use Rattle.px_document.specs.Step.{PlainStep}
+use Rattle.px_frame.specs.External.{Frame, alone, height}
+use Rattle.px_steps.specs.Plain.{first_refusal, step_faults, step_on, step_size}
+use Rattle.px_tree.specs.Step.{PlainStep}
 
--- a step that is not refused and has no fault
-pub record IsSound (s : PlainStep) (frame : Frame) : Type 0 where
+-- a step that is run on a frame: it is not refused, has no fault, and makes the next frame, of fewer than 2^32 rows
+pub record IsRun (s : PlainStep) (frame next : Frame) : Type 0 where
   pub accepted : first_refusal s frame ≡ None
   pub sound : step_faults s frame ≡ []
+  pub made : step_on s frame ≡ Some next
+  pub short : height next < 2 ^ 32
 
--- each step is so on the frame that those before it make
-abbrev pub AreSound : List PlainStep → Frame → Type 0
-AreSound [] frame = Unit {0}
-AreSound (s ∷ steps) frame = IsSound s frame × ((next : Frame) → step_on s frame ≡ Some next → AreSound steps next)
+-- steps that are run one after another, from the first frame to the last
+abbrev pub AreRun : List PlainStep → Frame → Frame → Type 0
+AreRun [] frame last = frame ≡ last
+AreRun (s ∷ steps) frame last = (next : Frame) × (IsRun s frame next × AreRun steps next last)
 
 -- why a step has no answer: it is its first refusal; or it is not refused, and this is one of its faults, or it has too many
 -- values
@@ -27,24 +29,24 @@ IsStepCause e s frame =
     (first_refusal s frame ≡ Some e)
     ⊎ ((first_refusal s frame ≡ None) × (IsOneOf e (step_faults s frame) ⊎ ((e ≡ ComputeError TooLong) × (2 ^ 32 ≤ step_size s frame))))
 
--- such a cause stands at a step that is reached: at the first one, or that one is sound and it stands in the others
+-- such a cause stands at a step that is reached: at the first one, or that one is run and it stands in the others
 abbrev pub StandsIn : PxError → List PlainStep → Frame → Type 0
 StandsIn e [] frame = ⊥
 StandsIn e (s ∷ steps) frame =
-    IsStepCause e s frame ⊎ (IsSound s frame × ((next : Frame) × ((step_on s frame ≡ Some next) × StandsIn e steps next)))
+    IsStepCause e s frame ⊎ ((next : Frame) × (IsRun s frame next × StandsIn e steps next))
 
 -- why steps have no answer: memory was wanting, or the cause stands at a step
 abbrev pub IsCauseIn : PxError → List PlainStep → Frame → Type 0
 IsCauseIn e steps frame = (e ≡ OutOfMemory) ⊎ StandsIn e steps frame
 
--- what a step answers: the frame that it makes, where it is sound; or memory was wanting, or there is a cause
+-- what a step answers: the frame that it makes, where it is run; or memory was wanting, or there is a cause
 abbrev pub StepAnswers : Result (List Series) PxError → PlainStep → List Series → Type 0
-StepAnswers (Ok made) s frame = IsSound s (alone frame) × (step_on s (alone frame) ≡ Some (alone made))
+StepAnswers (Ok made) s frame = IsRun s (alone frame) (alone made)
 StepAnswers (Err e) s frame = (e ≡ OutOfMemory) ⊎ IsStepCause e s (alone frame)
 
--- what steps answer: the frame that they make, where they are sound; or a cause
+-- what steps answer: the frame that they make, where they are run; or a cause
 abbrev pub StepsAnswer : Result (List Series) PxError → List PlainStep → List Series → Type 0
-StepsAnswer (Ok made) steps frame = AreSound steps (alone frame) × (plain_on steps (alone frame) ≡ Some (alone made))
+StepsAnswer (Ok made) steps frame = AreRun steps (alone frame) (alone made)
 StepsAnswer (Err e) steps frame = IsCauseIn e steps (alone frame)
 
 -- why some planned expressions have no values: memory was wanting, or one of them has none for this cause

@@ -13,18 +13,18 @@ use Rattle.px_value.specs.declared.error.InvalidWhy.TheVariants.{ListKey, Types}
 use Rattle.px_value.specs.declared.error.ComputeWhy.TheVariants.{AggScalar}
 use Rattle.px_value.specs.declared.method.GroupByMethod.{GroupByMethod}
 use Rattle.px_value.specs.declared.method.GroupByMethod.TheVariants.{Sum}
-use Rattle.px_expr.specs.Built.{is_sum}
+use Rattle.px_tree.specs.Built.{is_sum}
 use Rattle.px_frame.specs.Cell.{Cell, unit, rows, list_of, value_of_cell}
 use Rattle.px_frame.specs.Frame.{look, height_of, subframe, first_repeat}
 use Rattle.px_frame.specs.Parts.{parts_of}
-use Rattle.px_expression.specs.Shape.{is_unit, name_of}
-use Rattle.px_expression.specs.Tree.{Tree, column, agg, len}
-use Rattle.px_expression.specs.declared.context.Context.{Context}
-use Rattle.px_expression.specs.declared.context.Context.TheVariants.{Default, Aggregation}
+use Rattle.px_tree.specs.Shape.{is_unit, name_of}
+use Rattle.px_tree.specs.Tree.{Tree, column, agg, len}
+use Rattle.px_tree.specs.declared.context.Context.{Context}
+use Rattle.px_tree.specs.declared.context.Context.TheVariants.{Default, Aggregation}
 use Rattle.px_value.specs.Option.{each}
 use Rattle.px_document.specs.Form.{with_front}
 use Rattle.px_steps.specs.Plain.{first_of, key_values, no_key_refusal}
-use Rattle.px_document.specs.Step.{PlainStep, group}
+use Rattle.px_tree.specs.Step.{PlainStep, group}
 
 -- a key by its name
 abbrev pub is_direct_key : Tree → Bool

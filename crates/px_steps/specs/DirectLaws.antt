@@ -15,14 +15,14 @@ use Rattle.px_frame.specs.External.{alone, scope_of}
 use Rattle.px_frame.specs.Frame.{IsFrame, look, has_name, has_height, height_of, series_at, subframe, first_repeat}
 use Rattle.px_frame.specs.Parts.{parts_of}
 use Rattle.px_frame.specs.Schema.{FieldKind, column_field, has_field_name}
-use Rattle.px_expression.specs.Shape.{name_of}
-use Rattle.px_expression.specs.Tree.{Tree, column, agg, len}
-use Rattle.px_expression.specs.Typing.{kind_of_name, refused_where, fails, not_list}
+use Rattle.px_tree.specs.Shape.{name_of}
+use Rattle.px_tree.specs.Tree.{Tree, column, agg, len}
+use Rattle.px_tree.specs.Typing.{kind_of_name, refused_where, fails, not_list}
 use Rattle.px_steps.specs.Direct.{is_direct_group, is_direct_key, is_direct_agg}
 use Rattle.px_steps.specs.Direct as direct
 use Rattle.px_steps.specs.Plain as plain
 use Rattle.px_steps.specs.Plain.{first_of, key_values}
-use Rattle.px_document.specs.Step.{PlainStep, group}
+use Rattle.px_tree.specs.Step.{PlainStep, group}
 use Rattle.px_value.specs.FitLaws.{both as all_and}
 use Rattle.px_frame.specs.LookLaws.{field_look as field-look, look_rows as look-at}
 use Rattle.std.proofs.lemmas.List.{append-nil as append_nil, map-append}

@@ -9,7 +9,7 @@ use Rattle.px_value.specs.declared.error.PxError.{PxError}
 use Rattle.px_value.specs.declared.error.PxError.TheVariants.{ComputeError, Duplicate, InvalidOperation, OutOfMemory}
 use Rattle.px_value.specs.declared.error.InvalidWhy.TheVariants.{ListKey}
 use Rattle.px_value.specs.declared.error.ComputeWhy.TheVariants.{TooLong}
-use Rattle.px_expr.specs.Built.{is_built_tree}
+use Rattle.px_tree.specs.Built.{is_built_tree}
 use Rattle.px_expr.specs.Plan.{planned_over}
 use Rattle.px_expr.specs.Planned.{Planned}
 use Rattle.px_expr.specs.Value.{IsOneOf}
@@ -18,12 +18,12 @@ use Rattle.px_frame.specs.Frame.{first_repeat, has_height, height_of}
 use Rattle.px_frame.specs.Groups.{is_list}
 use Rattle.px_frame.specs.Schema.{column_field}
 use Rattle.px_frame.specs.Spread.{NamedCell}
-use Rattle.px_expression.specs.Node.{is_unit_cell}
-use Rattle.px_expression.specs.Shape.{name_of}
-use Rattle.px_expression.specs.Tree.{Tree}
-use Rattle.px_expression.specs.Typing.{Scope, fails, kind_in, not_list, refusals_of, refused_where}
-use Rattle.px_expression.specs.Value.{faults_on, value_on}
-use Rattle.px_expression.specs.declared.context.Context.TheVariants.{Default}
+use Rattle.px_tree.specs.Node.{is_unit_cell}
+use Rattle.px_tree.specs.Shape.{name_of}
+use Rattle.px_tree.specs.Tree.{Tree}
+use Rattle.px_tree.specs.Typing.{Scope, fails, kind_in, not_list, refusals_of, refused_where}
+use Rattle.px_tree.specs.Value.{faults_on, value_on}
+use Rattle.px_tree.specs.declared.context.Context.TheVariants.{Default}
 use Rattle.px_steps.specs.Plain.{grouped_kind, height_fault}
 
 -- memory was wanting, or one of some faults stands, or so many values are too many

@@ -19,15 +19,15 @@ use Rattle.px_frame.specs.Groups.{first_row}
 use Rattle.px_frame.specs.Parts.{parts_of}
 use Rattle.px_frame.specs.Schema.{column_field}
 use Rattle.px_frame.specs.Spread.{NamedCell, spread, spread_column, spread_all, rows_beside, assembled}
-use Rattle.px_expression.specs.Node.{kept_rows}
-use Rattle.px_expression.specs.Partition.{is_elementwise, is_partition_safe}
-use Rattle.px_expression.specs.Shape.{is_unit, name_of}
-use Rattle.px_expression.specs.Size.{size_on}
-use Rattle.px_expression.specs.Tree.{Tree}
-use Rattle.px_expression.specs.Typing.{kind_in, refusals_of, refused_where, fails, not_list}
-use Rattle.px_expression.specs.Value.{value_on, named, faults_on, has_misfit}
-use Rattle.px_expression.specs.declared.context.Context.TheVariants.{Default, Aggregation}
-use Rattle.px_document.specs.Step.{PlainStep, select, filter, group}
+use Rattle.px_tree.specs.Node.{kept_rows}
+use Rattle.px_tree.specs.Partition.{is_elementwise, is_partition_safe}
+use Rattle.px_tree.specs.Shape.{is_unit, name_of}
+use Rattle.px_tree.specs.Size.{size_on}
+use Rattle.px_tree.specs.Tree.{Tree}
+use Rattle.px_tree.specs.Typing.{kind_in, refusals_of, refused_where, fails, not_list}
+use Rattle.px_tree.specs.Value.{value_on, named, faults_on, has_misfit}
+use Rattle.px_tree.specs.declared.context.Context.TheVariants.{Default, Aggregation}
+use Rattle.px_tree.specs.Step.{PlainStep, select, filter, group}
 
 -- an expression's value, under its name and type
 abbrev pub named_value : Frame → Tree → Option NamedCell

@@ -8,16 +8,16 @@ use Rattle.px_document.specs.Document.{Doc}
 use Rattle.px_document.specs.DocumentText.{IsDocument}
 use Rattle.px_document.specs.Label.{line_of, bad_document_line}
 use Rattle.px_frame.specs.External.{alone}
-use Rattle.px_steps.specs.Causes.{AreSound, IsCauseIn}
+use Rattle.px_steps.specs.Causes.{AreRun, IsCauseIn}
 use Rattle.px_steps.specs.Plain.{plain_on}
 use Rattle.px_document.specs.Text.{text_of}
 
--- no step is refused or has a fault, and the text is that of the frame which the steps make
+-- the steps are run one after another, and the text is that of the frame which they make
 pub record IsResult (bytes text : List ℕ) : Type 0 where
   pub doc : Doc
   pub document : IsDocument bytes doc
-  pub sound : AreSound doc.steps (alone doc.columns)
   pub made : List Series
+  pub run : AreRun doc.steps (alone doc.columns) (alone made)
   pub plain : plain_on doc.steps (alone doc.columns) ≡ Some (alone made)
   pub written : text ≡ text_of made (height_of made)
 

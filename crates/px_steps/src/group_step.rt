@@ -1,27 +1,27 @@
 //! A group step: one row for each part of a frame by keys.
-ghost use Rattle.std.specs.Prelude.{◌≡◌, ◌+◌, ◌<◌, ◌≤◌, ◌++◌, ◌∷◌, [], None, Ok, Some, IfOk, OnOk, length, map, true};
+ghost use Rattle.std.specs.Prelude.{◌≡◌, ◌+◌, ◌<◌, ◌≤◌, ◌^◌, ◌++◌, ◌∷◌, [], None, Ok, Some, IfOk, OnOk, length, map, true};
 ghost use Rattle.std.specs.List.{flat_map, list_all};
 ghost use Rattle.px_value.specs.Answer.{Answers};
 ghost use Rattle.px_value.specs.Option.{each};
-ghost use Rattle.px_expr.specs.Built.{is_built_tree};
+ghost use Rattle.px_tree.specs.Built.{is_built_tree};
 ghost use Rattle.px_frame.specs.Aggregate.{has_row};
 ghost use Rattle.px_frame.specs.External.{alone};
 ghost use Rattle.px_frame.specs.Frame.{first_repeat, height_of, names_of};
 ghost use Rattle.px_frame.specs.Groups.{groups_by, rows_of};
 ghost use Rattle.px_frame.specs.Parts.{parts_of};
 ghost use Rattle.px_frame.specs.Schema.{column_field};
-ghost use Rattle.px_expression.specs.Shape.{name_of};
-ghost use Rattle.px_expression.specs.Size.{size_on};
-ghost use Rattle.px_expression.specs.Typing.{refusals_of};
-ghost use Rattle.px_expression.specs.View.{tree};
-ghost use Rattle.px_expression.specs.declared.context.Context.TheVariants.{Aggregation};
+ghost use Rattle.px_tree.specs.Shape.{name_of};
+ghost use Rattle.px_tree.specs.Size.{size_on};
+ghost use Rattle.px_tree.specs.Typing.{refusals_of};
+ghost use Rattle.px_tree.specs.View.{tree};
+ghost use Rattle.px_tree.specs.declared.context.Context.TheVariants.{Aggregation};
 ghost use Rattle.px_steps.specs.Finds.{is_key};
 ghost use Rattle.px_steps.specs.Causes.{StepAnswers};
 ghost use Rattle.px_steps.specs.Finds.{Finds, FindsBy, key_faults, part_faults, part_frames, typed_key_refusals};
 ghost use Rattle.px_document.specs.Form.{with_front};
 ghost use Rattle.px_steps.specs.Meets.{Meets, MeetsBy};
 ghost use Rattle.px_steps.specs.Plain.{agg_refusals, aggregated_on, columns_on, greatest, key_on, key_refusals, repeat_refusal, step_refusals};
-ghost use Rattle.px_document.specs.Step.{group};
+ghost use Rattle.px_tree.specs.Step.{group};
 
 use crate::aggregated::aggregated;
 use crate::planned::{add_names, cell_on, planned};
@@ -34,8 +34,6 @@ use std::alloc::Global;
 use std::rc::Rc;
 use std::sync::ledger::Ledger;
 
-#[cfg(test)]
-mod tests;
 
 /// Nothing, unless a key is refused over a schema, or is a list.
 fn accept_key(alloc: Global, key: &Expr, schema: &SchemaRef) -> Px<()>
@@ -222,6 +220,7 @@ fn grouped_frame<L: Ledger, M: Ledger>(
     ensures answer { Finds result (columns_on (alone frame.now) (map tree aggs.now) by.now)
         (flat_map (part_faults (alone frame.now) (parts_of by.now (height_of frame.now))) (map tree aggs.now))
         (greatest (map (λ t. size_on t (part_frames (alone frame.now) (parts_of by.now (height_of frame.now)))) (map tree aggs.now))) }
+    ensures short { IfOk result (λ f. height_of f < 2 ^ 32) }
     ensures state { state.new ≡ state.old }
     ensures grouped { groupings.new ≡ groupings.old + 1 }
 {

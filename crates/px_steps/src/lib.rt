@@ -10,10 +10,11 @@ mod runner;
 mod select_step;
 mod status;
 
-pub use px_document::{Document, DocumentFault, Step, error_line, frame_text, read_document};
+pub use px_document::{Document, DocumentFault, error_line, frame_text, read_document};
 pub use px_ends::{
     LIMIT, MemorySink, MemorySource, Sink, SinkFailed, Source, SourceFailed, StdinSource,
     StdoutSink,
 };
+pub use px_tree::Step;
 pub use runner::run_steps;
 pub use status::Status;

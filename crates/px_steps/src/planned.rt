@@ -1,16 +1,16 @@
 //! Expressions as nodes, and what these give on a frame.
 ghost use Rattle.std.specs.Prelude.{◌≡◌, ◌++◌, [], Some, IfOk, IfErr, OnOk, map, true};
-ghost use Rattle.px_expr.specs.Built.{is_built_tree};
+ghost use Rattle.px_tree.specs.Built.{is_built_tree};
 ghost use Rattle.px_expr.specs.NodeView.{plan_of};
 ghost use Rattle.px_expr.specs.Plan.{planned_over};
 ghost use Rattle.px_expr.specs.Value.{IsCause};
 ghost use Rattle.px_frame.specs.CellView.{named_cell};
 ghost use Rattle.px_frame.specs.External.{alone};
-ghost use Rattle.px_expression.specs.Node.{is_unit_cell};
-ghost use Rattle.px_expression.specs.Shape.{is_unit, name_of};
-ghost use Rattle.px_expression.specs.Typing.{refusals_of};
-ghost use Rattle.px_expression.specs.Value.{faults_on};
-ghost use Rattle.px_expression.specs.View.{tree};
+ghost use Rattle.px_tree.specs.Node.{is_unit_cell};
+ghost use Rattle.px_tree.specs.Shape.{is_unit, name_of};
+ghost use Rattle.px_tree.specs.Typing.{refusals_of};
+ghost use Rattle.px_tree.specs.Value.{faults_on};
+ghost use Rattle.px_tree.specs.View.{tree};
 ghost use Rattle.px_steps.specs.Finds.{repeat_beside};
 ghost use Rattle.px_steps.specs.Meets.{Meets, MeetsBy};
 ghost use Rattle.px_steps.specs.Plain.{named_value};

@@ -3,19 +3,17 @@ ghost use Rattle.std.specs.Prelude.{◌≡◌, ◌+◌, Some, IfOk, IfErr, OnOk,
 ghost use Rattle.std.specs.List.{list_all};
 ghost use Rattle.px_value.specs.declared.error.PxError.TheVariants.{OutOfMemory};
 ghost use Rattle.px_frame.specs.External.{alone};
-ghost use Rattle.px_document.specs.Built.{is_built};
-ghost use Rattle.px_steps.specs.Causes.{AreSound, IsCauseIn, StepAnswers, StepsAnswer};
+ghost use Rattle.px_tree.specs.Built.{is_built};
+ghost use Rattle.px_steps.specs.Causes.{AreRun, IsCauseIn, StepAnswers, StepsAnswer};
 ghost use Rattle.px_steps.specs.Plain.{AreValid, groupings_in, groupings_of, plain_on};
-ghost use Rattle.px_document.specs.Step.{step_view};
+ghost use Rattle.px_tree.specs.Step.{step_view};
 
-#[cfg(test)]
-mod tests;
 
 use crate::group_step::group_step;
 use crate::select_step::select_step;
 use px_column::{Px, Steps};
-use px_document::Step;
 use px_frame::DataFrame;
+use px_tree::Step;
 use px_window::ExecutionState;
 use std::alloc::Global;
 use std::sync::ledger::Ledger;
@@ -76,9 +74,10 @@ pub fn run_steps<L: Ledger, M: Ledger>(
     groupings: &mut Steps<M>,
 ) -> Px<DataFrame>
     requires built { list_all is_built (map step_view steps.now) ≡ true }
-    // The frame is the one that the steps mean, and no step is refused or has a fault.
+    // The frame is the one that the steps mean; none of them is refused, has a fault or makes 2^32
+    // rows.
     ensures plain { IfOk result (λ f. plain_on (map step_view steps.now) (alone frame.now) ≡ Some (alone f)) }
-    ensures sound { OnOk result (AreSound (map step_view steps.now) (alone frame.now)) }
+    ensures run { IfOk result (λ f. AreRun (map step_view steps.now) (alone frame.now) (alone f)) }
     // What is told stands at a step that is reached, or memory was wanting.
     ensures causes { IfErr result (λ e. IsCauseIn e (map step_view steps.now) (alone frame.now)) }
     // Valid steps make their frame, where memory is not wanting.

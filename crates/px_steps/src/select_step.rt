@@ -2,20 +2,20 @@
 ghost use Rattle.std.specs.Prelude.{◌≡◌, [], Some, IfOk, IfErr, OnOk, map, true};
 ghost use Rattle.std.specs.List.{flat_map, list_all};
 ghost use Rattle.px_value.specs.Option.{each};
-ghost use Rattle.px_expr.specs.Built.{is_built_tree};
+ghost use Rattle.px_tree.specs.Built.{is_built_tree};
 ghost use Rattle.px_expr.specs.NodeView.{plan_of};
 ghost use Rattle.px_expr.specs.Plan.{planned_over};
 ghost use Rattle.px_expr.specs.Value.{IsCause};
 ghost use Rattle.px_frame.specs.CellView.{named_cell};
 ghost use Rattle.px_frame.specs.External.{alone};
-ghost use Rattle.px_expression.specs.Typing.{refusals_of};
-ghost use Rattle.px_expression.specs.Value.{faults_on};
-ghost use Rattle.px_expression.specs.View.{tree};
-ghost use Rattle.px_expression.specs.declared.context.Context.TheVariants.{Default};
+ghost use Rattle.px_tree.specs.Typing.{refusals_of};
+ghost use Rattle.px_tree.specs.Value.{faults_on};
+ghost use Rattle.px_tree.specs.View.{tree};
+ghost use Rattle.px_tree.specs.declared.context.Context.TheVariants.{Default};
 ghost use Rattle.px_steps.specs.Causes.{IsCauseOfAny, StepAnswers};
 ghost use Rattle.px_steps.specs.Meets.{Meets, MeetsBy};
 ghost use Rattle.px_steps.specs.Plain.{named_value, repeat_refusal};
-ghost use Rattle.px_document.specs.Step.{select};
+ghost use Rattle.px_tree.specs.Step.{select};
 
 use crate::planned::{add_names, cell_on, planned};
 use indexmap::IndexSet;

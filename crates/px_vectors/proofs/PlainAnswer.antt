@@ -7,13 +7,13 @@ use Rattle.px_value.specs.declared.error.PxError.{PxError}
 use Rattle.px_value.specs.declared.error.PxError.TheVariants.{ColumnNotFound, Duplicate, InvalidOperation, ComputeError, OutOfBounds, ShapeMismatch, SchemaMismatch, OutOfMemory}
 use Rattle.px_frame.specs.Frame.{first_repeat, frame_of, height_of, is_even, names_of, unless_repeated}
 use Rattle.px_frame.specs.Parts.{parts_of}
-use Rattle.px_expression.specs.Shape.{name_of}
+use Rattle.px_tree.specs.Shape.{name_of}
 use Rattle.px_steps.specs.Direct.{first_of_two, agg_refusals, aggregated_on, columns_on, key_on, key_refusals, repeat_refusal, step_on, step_refusals}
-use Rattle.px_expression.specs.Tree.{Tree, column}
+use Rattle.px_tree.specs.Tree.{Tree, column}
 use Rattle.px_value.specs.Option.{each}
 use Rattle.px_steps.specs.Meets.{Meets}
 use Rattle.px_steps.specs.Plain.{key_values, no_key_refusal}
-use Rattle.px_document.specs.Step.{group}
+use Rattle.px_tree.specs.Step.{group}
 use Rattle.px_vectors.proofs.PlainNames.{made_names, made_even}
 
 -- columns that are made of the parts

@@ -5,7 +5,7 @@ use Rattle.px_value.specs.Series.{Series}
 use Rattle.px_value.specs.declared.error.PxError.TheVariants.{ColumnNotFound, InvalidOperation}
 use Rattle.px_value.specs.declared.error.InvalidWhy.TheVariants.{ListKey}
 use Rattle.px_frame.specs.Frame.{look}
-use Rattle.px_expression.specs.Tree.{column}
+use Rattle.px_tree.specs.Tree.{column}
 use Rattle.px_steps.specs.Direct.{key_on, key_refusals, list_refusal}
 
 not_list : (k : Kind) → is_list_kind k ≡ false → list_refusal (Some k) ≡ []

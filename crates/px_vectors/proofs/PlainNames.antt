@@ -11,8 +11,8 @@ use Rattle.px_frame.specs.Frame.{all_have_height, has_height, height_of, is_even
 use Rattle.px_frame.specs.Groups.{first_row}
 use Rattle.px_value.specs.FitLaws.{both}
 use Rattle.px_steps.specs.Direct.{kind_on, value_on, aggregated_on, grouped_kind, key_on, spread, value_on_part}
-use Rattle.px_expression.specs.Shape.{name_of, is_unit}
-use Rattle.px_expression.specs.Tree.{Tree}
+use Rattle.px_tree.specs.Shape.{name_of, is_unit}
+use Rattle.px_tree.specs.Tree.{Tree}
 use Rattle.px_value.specs.Option.{each}
 use Rattle.px_steps.specs.Plain.{key_values}
 use Rattle.px_vectors.proofs.EachMade.{each_maps, each_passes}

@@ -13,7 +13,7 @@ use Rattle.px_frame.specs.Cell.{unit, value_of_cell}
 use Rattle.px_frame.specs.Frame.{has_name, look, series_at, slots_at, subframe}
 use Rattle.px_frame.specs.Groups.{first_row}
 use Rattle.px_steps.specs.Direct.{kind_on, direct_kind, value_on}
-use Rattle.px_expression.specs.Tree.{Tree, column, agg, len}
+use Rattle.px_tree.specs.Tree.{Tree, column, agg, len}
 use Rattle.px_steps.specs.Plain.{key_values}
 
 first_slots : (xs : List Slot) (ps : List (List ℕ)) → slots_at xs (map first_row ps) ≡ map (λ p. slot_at xs (first_row p)) ps

@@ -6,7 +6,7 @@ use Rattle.px_value.specs.declared.error.PxError.{PxError}
 use Rattle.px_value.specs.declared.error.PxError.TheVariants.{ColumnNotFound, Duplicate, InvalidOperation, ComputeError, OutOfBounds, ShapeMismatch, SchemaMismatch, OutOfMemory}
 use Rattle.px_frame.specs.External.{alone}
 use Rattle.px_frame.specs.Frame.{IsFrame}
-use Rattle.px_expression.specs.Tree.{column}
+use Rattle.px_tree.specs.Tree.{column}
 use Rattle.px_steps.specs.Direct.{is_direct_group, is_direct_key, is_direct_agg}
 use Rattle.px_steps.specs.Direct as direct
 use Rattle.px_steps.specs.DirectLaws.{refusal_same, columns_same}

@@ -12,12 +12,12 @@ use Rattle.px_value.specs.declared.method.GroupByMethod.TheVariants as method
 use Rattle.px_value.specs.declared.operator.Operator.TheVariants.{Multiply, Gt}
 use Rattle.px_value.specs.declared.sort_options.SortOptions.{SortOptions}
 use Rattle.px_frame.specs.External.{Frame, alone}
-use Rattle.px_expression.specs.Tree.{Tree, single, no_trees, one_tree, no_order, column, literal, alias, binary, cast, function, agg, len, window}
-use Rattle.px_expression.specs.declared.function.FunctionExpr.TheVariants.{Explode, IsNotNull, Reverse}
-use Rattle.px_expression.specs.declared.window.WindowMapping.{WindowMapping}
-use Rattle.px_expression.specs.declared.window.WindowMapping.TheVariants.{GroupsToRows}
-use Rattle.px_document.specs.Step as step
-use Rattle.px_document.specs.Step.{PlainStep, select, group}
+use Rattle.px_tree.specs.Tree.{Tree, by_name, as_explode, single, no_trees, one_tree, no_order, column, literal, alias, binary, cast, function, agg, len, window}
+use Rattle.px_tree.specs.declared.function.FunctionExpr.TheVariants.{IsNotNull, Reverse}
+use Rattle.px_tree.specs.declared.window.WindowMapping.{WindowMapping}
+use Rattle.px_tree.specs.declared.window.WindowMapping.TheVariants.{GroupsToRows}
+use Rattle.px_tree.specs.Step as step
+use Rattle.px_tree.specs.Step.{PlainStep, select, group}
 use Rattle.px_vectors.specs.Worked.{num, four_rows}
 
 -- some numbers, as places
@@ -99,11 +99,11 @@ first_of e = agg method.First e
 
 -- the values of an expression's lists one after another
 abbrev pub explode : Tree → Tree
-explode e = function (one_tree e no_trees) Explode
+explode e = function (one_tree e no_trees) as_explode
 
 -- the rows of an expression from last to first
 abbrev pub reversed : Tree → Tree
-reversed e = function (one_tree e no_trees) Reverse
+reversed e = function (one_tree e no_trees) (by_name Reverse)
 
 -- rising, nulls first
 abbrev pub rising : SortOptions
@@ -138,7 +138,7 @@ sales = alone (column_of (codes "region") strings (word (codes "north") ∷ word
 -- what was sold, the best sale of each region beside each sale, and then for each region the sum, the best and the count
 abbrev pub sales_report : List PlainStep
 sales_report =
-    step.filter (function (one_tree (column (codes "units")) no_trees) IsNotNull)
+    step.filter (function (one_tree (column (codes "units")) no_trees) (by_name IsNotNull))
     ∷ select (column (codes "region") ∷ alias (binary (column (codes "units")) Multiply (cast (column (codes "price")) int64s Strict)) (codes "total") ∷ [])
     ∷ select (column (codes "region") ∷ column (codes "total") ∷ alias (window (max_of (column (codes "total"))) (one_tree (column (codes "region")) no_trees) no_order GroupsToRows) (codes "top") ∷ [])
     ∷ group (column (codes "region") ∷ []) (sum_of (column (codes "total")) ∷ first_of (column (codes "top")) ∷ len ∷ []) None

@@ -2,8 +2,8 @@
 use Rattle.std.specs.Prelude.{◌≡◌, ℕ, ◌^◌, ◌<◌, true, length, List, None, map}
 use Rattle.px_value.specs.declared.method.GroupByMethod.TheVariants as method
 use Rattle.px_frame.specs.Frame.{are_below}
-use Rattle.px_expression.specs.Tree.{Tree, column, agg, len}
-use Rattle.px_document.specs.Step.{PlainStep, group}
+use Rattle.px_tree.specs.Tree.{Tree, column, agg, len}
+use Rattle.px_tree.specs.Step.{PlainStep, group}
 use Rattle.px_vectors.specs.declared.plain_step.Aggregation.{Aggregation}
 use Rattle.px_vectors.specs.declared.plain_step.Aggregation.TheVariants.{Sum, Len}
 

@@ -4,8 +4,8 @@ use Rattle.px_value.specs.Datum.{integer, Slot}
 use Rattle.px_value.specs.Kind.{int64s, uint32s}
 use Rattle.px_value.specs.Series.{Series}
 use Rattle.px_value.specs.declared.method.GroupByMethod.TheVariants.{Sum}
-use Rattle.px_expression.specs.Tree.{Tree, column, agg, len}
-use Rattle.px_document.specs.Step.{PlainStep, group}
+use Rattle.px_tree.specs.Tree.{Tree, column, agg, len}
+use Rattle.px_tree.specs.Step.{PlainStep, group}
 
 -- a number at a place
 abbrev pub num : ℕ → Slot

@@ -1,7 +1,7 @@
 -- A document, as a text and as the data that a JSON reader makes of it.
 use Rattle.std.specs.Prelude.{ℕ, List, [], ◌∷◌, ◌++◌, codes}
 use Rattle.serde_json.specs.Data.{Data, null, number, string, array, object, unsigned, Items, no_items, item, Members, no_members, member}
-use Rattle.px_expression.specs.Tree.{len}
+use Rattle.px_tree.specs.Tree.{len}
 use Rattle.px_document.specs.Document.{Doc}
 use Rattle.px_document.specs.Form.{single_member}
 use Rattle.px_vectors.specs.Worked.{four_rows, sum_column, by_k}

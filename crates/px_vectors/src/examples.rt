@@ -10,12 +10,12 @@ ghost use Rattle.px_value.specs.declared.error.PxError.TheVariants.{ColumnNotFou
 ghost use Rattle.px_value.specs.declared.method.GroupByMethod.TheVariants as method;
 ghost use Rattle.px_value.specs.declared.operator.Operator.TheVariants.{Plus, NotEq, Minus};
 ghost use Rattle.px_frame.specs.External.{alone};
-ghost use Rattle.px_expression.specs.Tree.{single, range, series, no_trees, one_tree, no_order, ordered, column, literal, binary, cast, function, filter, slice, gather, sort, sort_by, agg, len, window};
-ghost use Rattle.px_expression.specs.declared.function.FunctionExpr.TheVariants.{IsIn};
-ghost use Rattle.px_expression.specs.declared.window.WindowMapping.TheVariants.{GroupsToRows, Join, Explode};
+ghost use Rattle.px_tree.specs.Tree.{by_name, single, range, series, no_trees, one_tree, no_order, ordered, column, literal, binary, cast, function, filter, slice, gather, sort, sort_by, agg, len, window};
+ghost use Rattle.px_tree.specs.declared.function.FunctionExpr.TheVariants.{IsIn};
+ghost use Rattle.px_tree.specs.declared.window.WindowMapping.TheVariants.{GroupsToRows, Join, Explode};
 ghost use Rattle.px_steps.specs.Plain.{columns_made, first_refusal, plain_on, step_faults};
-ghost use Rattle.px_document.specs.Step as step;
-ghost use Rattle.px_document.specs.Step.{select, group};
+ghost use Rattle.px_tree.specs.Step as step;
+ghost use Rattle.px_tree.specs.Step.{select, group};
 ghost use Rattle.px_vectors.specs.Examples.{nums, word, numbers, truth, column_of, four, k, x, y, int, no_value, null_int, greater, sum_of, max_of, first_of, explode, reversed, rising, falling, over_k, by_key, invalid, failed, sales, sales_report};
 ghost use Rattle.px_vectors.specs.Worked.{num};
 
@@ -60,7 +60,7 @@ pub fn group_examples()
         ≡ OutOfBounds ∷ [] }
     ensures from_the_end { columns_made (by_key k (gather x (literal (single int64s (Some (integer (negsuc 0))))) true ∷ [])) four
         ≡ Some (column_of (codes "k") int64s (nums (7 ∷ 9 ∷ [])) ∷ column_of (codes "x") int64s (nums (3 ∷ 1 ∷ [])) ∷ []) }
-    ensures among { columns_made (by_key k (function (one_tree x (one_tree (literal (series (column_of (codes "s") int64s (nums (0 ∷ 1 ∷ 3 ∷ []))))) no_trees)) IsIn ∷ [])) four
+    ensures among { columns_made (by_key k (function (one_tree x (one_tree (literal (series (column_of (codes "s") int64s (nums (0 ∷ 1 ∷ 3 ∷ []))))) no_trees)) (by_name IsIn) ∷ [])) four
         ≡ Some (column_of (codes "k") int64s (nums (7 ∷ 9 ∷ []))
         ∷ column_of (codes "x") (lists booleans) (Some (list (slots (truth true ∷ truth false ∷ truth true ∷ []))) ∷ Some (list (slots (truth true ∷ []))) ∷ []) ∷ []) }
     ensures by_no_key { columns_made (by_key k (sort_by x no_trees (record { descending = []; nulls_last = [] }) ∷ [])) four

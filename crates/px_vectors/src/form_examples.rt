@@ -8,12 +8,12 @@ ghost use Rattle.px_value.specs.declared.cast_options.CastOptions.TheVariants.{N
 ghost use Rattle.px_value.specs.declared.closed_interval.ClosedInterval.TheVariants.{Left};
 ghost use Rattle.px_value.specs.declared.method.GroupByMethod.TheVariants.{Count, Max};
 ghost use Rattle.px_value.specs.declared.operator.Operator.TheVariants.{FloorDivide};
-ghost use Rattle.px_expression.specs.Tree.{single, range, series, no_trees, one_tree, no_order, ordered, column, literal, alias, binary, ternary, cast, function, filter, slice, gather, sort, sort_by, agg, len, window};
-ghost use Rattle.px_expression.specs.declared.function.FunctionExpr.TheVariants.{Explode, IsBetween, IsIn, IsNull, Shift};
-ghost use Rattle.px_expression.specs.declared.window.WindowMapping.TheVariants.{Join};
+ghost use Rattle.px_tree.specs.Tree.{by_name, as_explode, single, range, series, no_trees, one_tree, no_order, ordered, column, literal, alias, binary, ternary, cast, function, filter, slice, gather, sort, sort_by, agg, len, window};
+ghost use Rattle.px_tree.specs.declared.function.FunctionExpr.TheVariants.{IsBetween, IsIn, IsNull, Shift};
+ghost use Rattle.px_tree.specs.declared.window.WindowMapping.TheVariants.{Join};
 ghost use Rattle.px_document.specs.ExprForm.{expr_of};
-ghost use Rattle.px_document.specs.Step as step;
-ghost use Rattle.px_document.specs.Step.{select, group};
+ghost use Rattle.px_tree.specs.Step as step;
+ghost use Rattle.px_tree.specs.Step.{select, group};
 ghost use Rattle.px_document.specs.StepForm.{any_step_of};
 ghost use Rattle.px_vectors.specs.Examples.{column_of, falling, int, k, sum_of, word, x};
 ghost use Rattle.px_vectors.specs.Worked.{num};
@@ -33,17 +33,17 @@ pub fn row_forms()
     ensures bin { option_and_then expr_of (read (codes "{\"bin\":[\"FloorDivide\",{\"col\":\"x\"},{\"col\":\"k\"}]}")) ≡ Some (binary x FloorDivide k) }
     ensures when { option_and_then expr_of (read (codes "{\"when\":[{\"col\":\"b\"},{\"col\":\"x\"},{\"col\":\"k\"}]}")) ≡ Some (ternary (column (codes "b")) x k) }
     ensures cast { option_and_then expr_of (read (codes "{\"cast\":[{\"col\":\"x\"},\"String\",\"NonStrict\"]}")) ≡ Some (cast x strings NonStrict) }
-    ensures is_null { option_and_then expr_of (read (codes "{\"fn\":[\"IsNull\",{\"col\":\"x\"}]}")) ≡ Some (function (one_tree x no_trees) IsNull) }
-    ensures is_in { option_and_then expr_of (read (codes "{\"fn\":[\"IsIn\",{\"col\":\"x\"},{\"col\":\"k\"}]}")) ≡ Some (function (one_tree x (one_tree k no_trees)) IsIn) }
-    ensures shift { option_and_then expr_of (read (codes "{\"fn\":[\"Shift\",-1,{\"col\":\"x\"}]}")) ≡ Some (function (one_tree x no_trees) (Shift (negsuc 0))) }
+    ensures is_null { option_and_then expr_of (read (codes "{\"fn\":[\"IsNull\",{\"col\":\"x\"}]}")) ≡ Some (function (one_tree x no_trees) (by_name IsNull)) }
+    ensures is_in { option_and_then expr_of (read (codes "{\"fn\":[\"IsIn\",{\"col\":\"x\"},{\"col\":\"k\"}]}")) ≡ Some (function (one_tree x (one_tree k no_trees)) (by_name IsIn)) }
+    ensures shift { option_and_then expr_of (read (codes "{\"fn\":[\"Shift\",-1,{\"col\":\"x\"}]}")) ≡ Some (function (one_tree x no_trees) (by_name (Shift (negsuc 0)))) }
     ensures is_between { option_and_then expr_of (read (codes "{\"fn\":[\"IsBetween\",\"Left\",{\"col\":\"x\"},{\"col\":\"k\"},{\"col\":\"x\"}]}"))
-        ≡ Some (function (one_tree x (one_tree k (one_tree x no_trees))) (IsBetween Left)) }
+        ≡ Some (function (one_tree x (one_tree k (one_tree x no_trees))) (by_name (IsBetween Left))) }
 {}
 
 /// Expressions that choose, move or reduce rows, and windows.
 #[tactic(auto, unfolding(px_document::specs::OnLiterals::px_document_on_literals))]
 pub fn choice_forms()
-    ensures explode { option_and_then expr_of (read (codes "{\"explode\":{\"col\":\"x\"}}")) ≡ Some (function (one_tree x no_trees) Explode) }
+    ensures explode { option_and_then expr_of (read (codes "{\"explode\":{\"col\":\"x\"}}")) ≡ Some (function (one_tree x no_trees) as_explode) }
     ensures filter { option_and_then expr_of (read (codes "{\"filter\":[{\"col\":\"x\"},{\"col\":\"b\"}]}")) ≡ Some (filter x (column (codes "b"))) }
     ensures slice { option_and_then expr_of (read (codes "{\"slice\":[{\"col\":\"x\"},{\"col\":\"k\"},{\"len\":null}]}")) ≡ Some (slice x k len) }
     ensures gather { option_and_then expr_of (read (codes "{\"gather\":[{\"col\":\"x\"},{\"col\":\"k\"},true]}")) ≡ Some (gather x k true) }

@@ -11,9 +11,9 @@ ghost use Rattle.px_value.specs.declared.method.GroupByMethod.TheVariants as met
 ghost use Rattle.px_value.specs.declared.operator.Operator.TheVariants.{Plus};
 ghost use Rattle.px_frame.specs.Cell.{unit, rows};
 ghost use Rattle.px_frame.specs.External.{alone};
-ghost use Rattle.px_expression.specs.Tree.{single, range, series, no_trees, one_tree, column, literal, alias, binary, ternary, cast, function, filter, slice, gather, sort, sort_by, agg, len};
-ghost use Rattle.px_expression.specs.Value.{faults_on, value_on};
-ghost use Rattle.px_expression.specs.declared.function.FunctionExpr.TheVariants.{DropNulls, IsBetween, IsIn, IsNotNull, IsNull, Not, NullCount, Shift};
+ghost use Rattle.px_tree.specs.Tree.{by_name, single, range, series, no_trees, one_tree, column, literal, alias, binary, ternary, cast, function, filter, slice, gather, sort, sort_by, agg, len};
+ghost use Rattle.px_tree.specs.Value.{faults_on, value_on};
+ghost use Rattle.px_tree.specs.declared.function.FunctionExpr.TheVariants.{DropNulls, IsBetween, IsIn, IsNotNull, IsNull, Not, NullCount, Shift};
 ghost use Rattle.px_vectors.specs.Examples.{column_of, explode, falling, four, greater, int, negative, no_value, null_int, numbers, nums, reversed, some_nulls, sum_of, truth, truths, word, x};
 ghost use Rattle.px_vectors.specs.Worked.{num};
 
@@ -41,20 +41,20 @@ pub fn row_examples()
 
 /// Functions of rows.
 pub fn function_examples()
-    ensures is_null { value_on (function (one_tree x no_trees) IsNull) some_nulls ≡ Some (rows (truths (false ∷ true ∷ false ∷ []))) }
-    ensures is_not_null { value_on (function (one_tree x no_trees) IsNotNull) some_nulls ≡ Some (rows (truths (true ∷ false ∷ true ∷ []))) }
-    ensures not { value_on (function (one_tree (greater x 1) no_trees) Not) some_nulls ≡ Some (rows (truth true ∷ None ∷ truth false ∷ [])) }
-    ensures between { value_on (function (one_tree x (one_tree (int 1) (one_tree (int 2) no_trees))) (IsBetween Both)) four ≡ Some (rows (truths (false ∷ true ∷ true ∷ false ∷ []))) }
-    ensures among { value_on (function (one_tree x (one_tree (literal (series (column_of (codes "s") int64s (num 1 ∷ None ∷ [])))) no_trees)) IsIn) some_nulls
+    ensures is_null { value_on (function (one_tree x no_trees) (by_name IsNull)) some_nulls ≡ Some (rows (truths (false ∷ true ∷ false ∷ []))) }
+    ensures is_not_null { value_on (function (one_tree x no_trees) (by_name IsNotNull)) some_nulls ≡ Some (rows (truths (true ∷ false ∷ true ∷ []))) }
+    ensures not { value_on (function (one_tree (greater x 1) no_trees) (by_name Not)) some_nulls ≡ Some (rows (truth true ∷ None ∷ truth false ∷ [])) }
+    ensures between { value_on (function (one_tree x (one_tree (int 1) (one_tree (int 2) no_trees))) (by_name (IsBetween Both))) four ≡ Some (rows (truths (false ∷ true ∷ true ∷ false ∷ []))) }
+    ensures among { value_on (function (one_tree x (one_tree (literal (series (column_of (codes "s") int64s (num 1 ∷ None ∷ [])))) no_trees)) (by_name IsIn)) some_nulls
         ≡ Some (rows (truth true ∷ None ∷ truth false ∷ [])) }
     ensures reversed { value_on (reversed x) four ≡ Some (rows (nums (3 ∷ 2 ∷ 1 ∷ 0 ∷ []))) }
     // A unit counts as a list of one row.
     ensures reversed_unit { value_on (reversed (int 5)) four ≡ Some (rows (num 5 ∷ [])) }
-    ensures shifted { value_on (function (one_tree x no_trees) (Shift (pos 1))) four ≡ Some (rows (None ∷ num 0 ∷ num 1 ∷ num 2 ∷ [])) }
-    ensures shifted_back { value_on (function (one_tree x no_trees) (Shift (negsuc 0))) four ≡ Some (rows (num 1 ∷ num 2 ∷ num 3 ∷ None ∷ [])) }
-    ensures shifted_away { value_on (function (one_tree x no_trees) (Shift (pos 9))) four ≡ Some (rows (None ∷ None ∷ None ∷ None ∷ [])) }
-    ensures present { value_on (function (one_tree x no_trees) DropNulls) some_nulls ≡ Some (rows (num 1 ∷ num 3 ∷ [])) }
-    ensures nulls { value_on (function (one_tree x no_trees) NullCount) some_nulls ≡ Some (unit (num 1)) }
+    ensures shifted { value_on (function (one_tree x no_trees) (by_name (Shift (pos 1)))) four ≡ Some (rows (None ∷ num 0 ∷ num 1 ∷ num 2 ∷ [])) }
+    ensures shifted_back { value_on (function (one_tree x no_trees) (by_name (Shift (negsuc 0)))) four ≡ Some (rows (num 1 ∷ num 2 ∷ num 3 ∷ None ∷ [])) }
+    ensures shifted_away { value_on (function (one_tree x no_trees) (by_name (Shift (pos 9)))) four ≡ Some (rows (None ∷ None ∷ None ∷ None ∷ [])) }
+    ensures present { value_on (function (one_tree x no_trees) (by_name DropNulls)) some_nulls ≡ Some (rows (num 1 ∷ num 3 ∷ [])) }
+    ensures nulls { value_on (function (one_tree x no_trees) (by_name NullCount)) some_nulls ≡ Some (unit (num 1)) }
     ensures exploded { value_on (explode (column (codes "l"))) (alone (column_of (codes "l") (lists int64s) (numbers (1 ∷ 2 ∷ []) ∷ numbers [] ∷ None ∷ []) ∷ []))
         ≡ Some (rows (num 1 ∷ num 2 ∷ None ∷ None ∷ [])) }
 {}

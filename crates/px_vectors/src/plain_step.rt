@@ -14,8 +14,8 @@ ghost use Rattle.px_frame.specs.Frame.{are_below, height_of, series_at, slots_at
 ghost use Rattle.px_frame.specs.Groups.{first_row};
 ghost use Rattle.px_steps.specs.Direct as direct;
 ghost use Rattle.px_steps.specs.Direct.{kind_on, value_on, agg_refusals, aggregated_on, columns_on, key_on, key_refusals, step_on, value_on_part};
-ghost use Rattle.px_expression.specs.Shape.{name_of};
-ghost use Rattle.px_expression.specs.Tree.{column};
+ghost use Rattle.px_tree.specs.Shape.{name_of};
+ghost use Rattle.px_tree.specs.Tree.{column};
 ghost use Rattle.px_value.specs.Option.{each};
 ghost use Rattle.px_steps.specs.Meets.{Meets, MeetsBy};
 ghost use Rattle.px_steps.specs.Plain.{columns_made, key_values, step_refusals};

@@ -3,8 +3,6 @@
 
 mod flags;
 mod state;
-#[cfg(test)]
-mod tests;
 
 pub use flags::StateFlags;
 pub use state::ExecutionState;

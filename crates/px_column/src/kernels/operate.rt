@@ -10,8 +10,6 @@ ghost use Rattle.px_operation.specs.Operate.{is_arithmetic};
 ghost use Rattle.px_operation.specs.Operator.{is_comparison};
 ghost use Rattle.px_column.specs.Operated.{appended_column, arithmetic_column, common_length, operated_column, operated_rows, rows_to};
 
-#[cfg(test)]
-mod tests;
 
 use crate::column::Column;
 use px_operation::{is_integer, operate, operator_type};

@@ -1,6 +1,6 @@
 //! What a document was read into.
 
-use crate::step::Step;
+use px_tree::Step;
 use px_column::Column;
 
 /// The columns and the steps of a document, in their order.

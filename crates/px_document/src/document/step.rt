@@ -6,14 +6,14 @@ ghost use Rattle.px_value.specs.Option.{each};
 ghost use Rattle.px_document.specs.ExprForm.{expr_of};
 ghost use Rattle.px_document.specs.Form.{ReadsBy, fields, items};
 ghost use Rattle.px_document.specs.Readable.{only_if};
-ghost use Rattle.px_document.specs.Built.{is_built};
-ghost use Rattle.px_document.specs.Step.{select, step_view};
+ghost use Rattle.px_tree.specs.Built.{is_built};
+ghost use Rattle.px_tree.specs.Step.{select, step_view};
 ghost use Rattle.px_document.specs.StepForm.{any_step_of, any_steps_of, group_parts};
 
 use crate::document::expr::read_exprs;
 use crate::document::fault::DocumentFault;
 use crate::document::fields::{items, only_member, three_fields};
-use crate::step::Step;
+use px_tree::Step;
 use serde_json::Value;
 use std::alloc::Global;
 

@@ -1,7 +1,7 @@
 use Rattle.std.proofs.Common.{◌≡◌, ◌+◌, drop, map}
-use Rattle.px_expression.specs.Nodes.{all_nodes_of}
-use Rattle.px_expression.specs.Tree.{trees_of}
-use Rattle.px_expression.specs.View.{tree}
+use Rattle.px_tree.specs.Nodes.{all_nodes_of}
+use Rattle.px_tree.specs.Tree.{trees_of}
+use Rattle.px_tree.specs.View.{tree}
 use Rattle.px_arena.proofs.counting.+counting.Given as goal
 
 abbrev pub invariant-room_behind_all-loop-expr : goal.invariant-room_behind_all-loop-expr

@@ -1,6 +1,6 @@
 use Rattle.std.proofs.Common.{◌≡◌, ◌+◌, ◌*◌, ◌++◌, drop}
 use Rattle.px_arena.specs.Arena.{trees_at}
-use Rattle.px_expression.specs.Nodes.{all_leaf_names}
+use Rattle.px_tree.specs.Nodes.{all_leaf_names}
 use Rattle.px_arena.proofs.leaves.+push_names.Given as goal
 
 abbrev pub decreases-push_names : goal.decreases-push_names

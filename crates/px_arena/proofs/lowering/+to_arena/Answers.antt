@@ -5,9 +5,9 @@ use Rattle.px_arena.proofs.Adding.{OnErr-of, AddsFront-more, AddsFront-after, ad
 use Rattle.px_arena.proofs.Shapes.{tree-BinaryExpr, tree-Ternary, tree-Filter, tree-Slice, tree-Gather, tree-SortBy, tree-Window}
 use Rattle.px_arena.proofs.Views.{trees_is}
 use Rattle.px_arena.specs.Adding.{AddsFront}
-use Rattle.px_expression.specs.Nodes.{postorder, all_postorder, order_postorder, children_postorder}
-use Rattle.px_expression.specs.Tree.{Tree, Trees, Order, trees_of, binary, ternary, filter, slice, gather, sort_by, window}
-use Rattle.px_expression.specs.View.{tree, trees, order_tree, mapping_of}
+use Rattle.px_tree.specs.Nodes.{postorder, all_postorder, order_postorder, children_postorder}
+use Rattle.px_tree.specs.Tree.{Tree, Trees, Order, trees_of, binary, ternary, filter, slice, gather, sort_by, window}
+use Rattle.px_tree.specs.View.{tree, trees, order_tree, mapping_of}
 use Rattle.px_arena.proofs.lowering.+to_arena.Goals as goal
 
 pub children_to_arena-returns-in_err-left-in-BinaryExpr-clause-part : goal.children_to_arena-returns-in_err-left-in-BinaryExpr-clause-part

@@ -1,8 +1,8 @@
 use Rattle.std.proofs.Common.{◌≡◌, ◌+◌, ◌*◌, ◌++◌, true, length, take, drop, map}
 use Rattle.px_arena.specs.Arena.{tree_at, all_below}
-use Rattle.px_expression.specs.Nodes.{all_nodes_of, all_postorder}
-use Rattle.px_expression.specs.Tree.{trees_of}
-use Rattle.px_expression.specs.View.{tree}
+use Rattle.px_tree.specs.Nodes.{all_nodes_of, all_postorder}
+use Rattle.px_tree.specs.Tree.{trees_of}
+use Rattle.px_tree.specs.View.{tree}
 use Rattle.px_arena.proofs.lowering.+to_arena.Given as goal
 
 abbrev pub invariant-all_to_arena-loop-expr : goal.invariant-all_to_arena-loop-expr

@@ -1,6 +1,6 @@
 use Rattle.std.proofs.Common.{◌≡◌, ◌+◌, ◌*◌, take, map}
 use Rattle.px_arena.specs.Arena.{tree_at}
-use Rattle.px_expression.specs.View.{tree}
+use Rattle.px_tree.specs.View.{tree}
 use Rattle.px_arena.proofs.rebuilding.+node_to_expr.Given as goal
 
 abbrev pub decreases-node_to_expr : goal.decreases-node_to_expr

@@ -1,6 +1,6 @@
 use Rattle.std.proofs.Common.{◌≡◌, ◌+◌, ◌*◌, drop}
 use Rattle.px_arena.specs.Arena.{trees_at}
-use Rattle.px_expression.specs.Shape.{are_units}
+use Rattle.px_tree.specs.Shape.{are_units}
 use Rattle.px_arena.proofs.scalar.+is_scalar.Given as goal
 
 abbrev pub decreases-is_scalar_ae : goal.decreases-is_scalar_ae

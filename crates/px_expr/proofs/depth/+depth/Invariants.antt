@@ -1,8 +1,8 @@
 use Rattle.std.proofs.Common.{◌≡◌, drop, map}
 use Rattle.std.specs.Prelude.{nat_le}
 use Rattle.px_expr.specs.Depth.{all_depth_of}
-use Rattle.px_expression.specs.Tree.{trees_of}
-use Rattle.px_expression.specs.View.{tree}
+use Rattle.px_tree.specs.Tree.{trees_of}
+use Rattle.px_tree.specs.View.{tree}
 use Rattle.px_expr.proofs.depth.+depth.Given as goal
 
 abbrev pub invariant-one_reaches-loop-expr : goal.invariant-one_reaches-loop-expr

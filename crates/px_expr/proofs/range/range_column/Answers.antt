@@ -3,8 +3,8 @@ use Rattle.px_value.specs.Datum.{integer}
 use Rattle.px_value.specs.Kind.{fits}
 use Rattle.px_value.specs.KindView.{kind_of}
 use Rattle.px_value.specs.View.{slots_of}
-use Rattle.px_expression.specs.Node.{integers, natural}
-use Rattle.px_expression.specs.Typing.{is_range_kind}
+use Rattle.px_tree.specs.Node.{integers, natural}
+use Rattle.px_tree.specs.Typing.{is_range_kind}
 use Rattle.px_expr.proofs.Ranges.{range_made, few_enough, count_is}
 use Rattle.px_expr.proofs.range.range_column.Goals as goal
 

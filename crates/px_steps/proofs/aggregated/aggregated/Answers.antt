@@ -2,9 +2,9 @@ use Rattle.std.proofs.Common.{◌≡◌, ◌∙◌, ap, refl, subst, sym}
 use Rattle.px_value.specs.declared.method.GroupByMethod.TheVariants.{Sum}
 use Rattle.px_frame.specs.External.{alone}
 use Rattle.px_frame.specs.Groups.{rows_of}
-use Rattle.px_expression.specs.Size.{size_on}
-use Rattle.px_expression.specs.Tree.{Tree, agg, column, len}
-use Rattle.px_expression.specs.View.{tree}
+use Rattle.px_tree.specs.Size.{size_on}
+use Rattle.px_tree.specs.Tree.{Tree, agg, column, len}
+use Rattle.px_tree.specs.View.{tree}
 use Rattle.px_steps.specs.Finds.{Finds, part_faults, part_frames}
 use Rattle.px_steps.specs.Plain.{agg_refusals, aggregated_on}
 use Rattle.px_steps.proofs.Grouping.{lengths_find, sum_finds}

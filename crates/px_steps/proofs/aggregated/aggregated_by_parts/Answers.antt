@@ -9,10 +9,10 @@ use Rattle.px_expr.specs.Planned.{Planned}
 use Rattle.px_frame.specs.External.{alone}
 use Rattle.px_frame.specs.Groups.{rows_of}
 use Rattle.px_frame.specs.Schema.{column_field}
-use Rattle.px_expression.specs.Shape.{name_of}
-use Rattle.px_expression.specs.Tree.{Tree}
-use Rattle.px_expression.specs.Typing.{Scope, kind_in}
-use Rattle.px_expression.specs.View.{tree}
+use Rattle.px_tree.specs.Shape.{name_of}
+use Rattle.px_tree.specs.Tree.{Tree}
+use Rattle.px_tree.specs.Typing.{Scope, kind_in}
+use Rattle.px_tree.specs.View.{tree}
 use Rattle.px_steps.specs.Finds.{part_faults}
 use Rattle.px_steps.specs.Plain.{grouped_kind, value_on_part}
 use Rattle.px_steps.proofs.Grouping.{accepted_made, column_finds, less_refused}

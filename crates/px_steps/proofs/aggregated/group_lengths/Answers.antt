@@ -1,7 +1,7 @@
 use Rattle.std.proofs.Common.{◌≡◌, ◌∙◌, refl, sym, ap, Some}
 use Rattle.px_frame.specs.Aggregate.{count_column}
-use Rattle.px_expression.specs.Shape.{name_of}
-use Rattle.px_expression.specs.Tree.{len}
+use Rattle.px_tree.specs.Shape.{name_of}
+use Rattle.px_tree.specs.Tree.{len}
 use Rattle.px_steps.proofs.Named.{lengths_meet}
 use Rattle.px_steps.proofs.aggregated.group_lengths.Goals as goal
 

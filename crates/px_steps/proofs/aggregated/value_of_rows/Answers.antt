@@ -8,7 +8,7 @@ use Rattle.px_frame.specs.Cell.{value_of_cell}
 use Rattle.px_frame.specs.CellView.{named_cell}
 use Rattle.px_frame.specs.External.{alone}
 use Rattle.px_frame.specs.Frame.{subframe}
-use Rattle.px_expression.specs.Value.{faults_on, value_on}
+use Rattle.px_tree.specs.Value.{faults_on, value_on}
 use Rattle.px_steps.specs.Plain.{named_value}
 use Rattle.px_steps.proofs.Grouping.{accepted_lacks, accepted_on_rows, finds_answer, fits_grouped, value_there}
 use Rattle.px_steps.proofs.Members.{if_ok}

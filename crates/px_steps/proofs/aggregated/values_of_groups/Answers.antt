@@ -9,7 +9,7 @@ use Rattle.px_frame.specs.External.{alone, rows_of_frame}
 use Rattle.px_frame.specs.Frame.{are_below}
 use Rattle.px_frame.specs.Groups.{Group, rows_of}
 use Rattle.px_frame.specs.GroupsView.{lent_group}
-use Rattle.px_expression.specs.Value.{faults_on}
+use Rattle.px_tree.specs.Value.{faults_on}
 use Rattle.px_steps.specs.Plain.{grouped_kind, value_on_part}
 use Rattle.px_steps.proofs.Grouping.{group_rows, part_lacks}
 use Rattle.px_steps.proofs.Members.{In, all_push, in_here, sound_next, values_next}

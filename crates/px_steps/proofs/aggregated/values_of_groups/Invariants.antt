@@ -6,7 +6,7 @@ use Rattle.px_expr.specs.NodeView.{plan_of}
 use Rattle.px_frame.specs.External.{alone}
 use Rattle.px_frame.specs.Groups.{rows_of}
 use Rattle.px_frame.specs.Schema.{column_field}
-use Rattle.px_expression.specs.Typing.{kind_in}
+use Rattle.px_tree.specs.Typing.{kind_in}
 use Rattle.px_steps.specs.Finds.{part_faults}
 use Rattle.px_document.specs.Form.{with_front}
 use Rattle.px_steps.specs.Plain.{grouped_kind, value_on_part}

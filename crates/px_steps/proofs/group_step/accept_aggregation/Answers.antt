@@ -1,6 +1,6 @@
 use Rattle.std.proofs.lemmas.Result.{err_from_is_err_and}
-use Rattle.px_expression.specs.View.{tree}
-use Rattle.px_expression.specs.declared.context.Context.TheVariants.{Aggregation}
+use Rattle.px_tree.specs.View.{tree}
+use Rattle.px_tree.specs.declared.context.Context.TheVariants.{Aggregation}
 use Rattle.px_steps.proofs.GroupStep.{type_refused}
 use Rattle.px_steps.proofs.group_step.accept_aggregation.Goals as goal
 

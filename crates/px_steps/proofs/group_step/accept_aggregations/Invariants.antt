@@ -1,9 +1,9 @@
 use Rattle.std.proofs.Common.{◌≡◌, map, drop, true}
 use Rattle.std.specs.List.{flat_map, list_all}
-use Rattle.px_expr.specs.Built.{is_built_tree}
-use Rattle.px_expression.specs.Typing.{refusals_of}
-use Rattle.px_expression.specs.View.{tree}
-use Rattle.px_expression.specs.declared.context.Context.TheVariants.{Aggregation}
+use Rattle.px_tree.specs.Built.{is_built_tree}
+use Rattle.px_tree.specs.Typing.{refusals_of}
+use Rattle.px_tree.specs.View.{tree}
+use Rattle.px_tree.specs.declared.context.Context.TheVariants.{Aggregation}
 use Rattle.px_steps.proofs.group_step.accept_aggregations.Given as goal
 
 abbrev pub invariant-loop-expr : goal.invariant-loop-expr

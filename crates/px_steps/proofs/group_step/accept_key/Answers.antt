@@ -1,5 +1,5 @@
 use Rattle.std.proofs.lemmas.Result.{err_from_is_err_and}
-use Rattle.px_expression.specs.View.{tree}
+use Rattle.px_tree.specs.View.{tree}
 use Rattle.px_steps.proofs.GroupStep.{key_refused}
 use Rattle.px_steps.proofs.group_step.accept_key.Goals as goal
 

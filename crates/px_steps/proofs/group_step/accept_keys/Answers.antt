@@ -1,5 +1,5 @@
 use Rattle.std.proofs.lemmas.Result.{err_from_is_err_and}
-use Rattle.px_expression.specs.View.{tree}
+use Rattle.px_tree.specs.View.{tree}
 use Rattle.px_steps.specs.Finds.{typed_key_refusals}
 use Rattle.px_steps.proofs.Members.{first_here}
 use Rattle.px_steps.proofs.group_step.accept_keys.Goals as goal

@@ -1,7 +1,7 @@
 use Rattle.std.proofs.Common.{◌≡◌, map, drop, true}
 use Rattle.std.specs.List.{flat_map, list_all}
-use Rattle.px_expr.specs.Built.{is_built_tree}
-use Rattle.px_expression.specs.View.{tree}
+use Rattle.px_tree.specs.Built.{is_built_tree}
+use Rattle.px_tree.specs.View.{tree}
 use Rattle.px_steps.specs.Finds.{typed_key_refusals}
 use Rattle.px_steps.proofs.group_step.accept_keys.Given as goal
 

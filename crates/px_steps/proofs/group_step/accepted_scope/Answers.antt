@@ -3,7 +3,7 @@ use Rattle.std.proofs.lemmas.Result.{err_from_is_err_and}
 use Rattle.px_frame.specs.External.{alone}
 use Rattle.px_frame.specs.Schema.{column_field}
 use Rattle.px_value.specs.declared.error.PxError.TheVariants.{OutOfMemory}
-use Rattle.px_expression.specs.View.{tree}
+use Rattle.px_tree.specs.View.{tree}
 use Rattle.px_steps.proofs.GroupStep.{aggs_first, key_missing, key_there, keys_first, names_first, none_first}
 use Rattle.px_steps.proofs.group_step.accepted_scope.Goals as goal
 

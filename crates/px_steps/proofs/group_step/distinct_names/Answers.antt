@@ -1,8 +1,8 @@
 use Rattle.std.proofs.Common.{◌≡◌, ◌∙◌, ◌++◌, [], List, ℕ, Some, ap, map, subst, sym}
 use Rattle.std.proofs.lemmas.Result.{err_from_is_err_and}
 use Rattle.px_value.specs.declared.error.PxError.{PxError}
-use Rattle.px_expression.specs.Shape.{name_of}
-use Rattle.px_expression.specs.View.{tree}
+use Rattle.px_tree.specs.Shape.{name_of}
+use Rattle.px_tree.specs.View.{tree}
 use Rattle.px_steps.specs.Finds.{repeat_beside}
 use Rattle.px_steps.specs.Meets.{IsFirst, Meets}
 use Rattle.px_steps.proofs.GroupStep.{repeat_both, repeat_keys}

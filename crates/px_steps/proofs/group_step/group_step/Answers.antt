@@ -1,8 +1,8 @@
 use Rattle.std.proofs.Common.{None, map}
 use Rattle.std.proofs.lemmas.Result.{err_from_is_err_and}
 use Rattle.px_frame.specs.External.{alone}
-use Rattle.px_expression.specs.View.{tree}
-use Rattle.px_document.specs.Step.{group}
+use Rattle.px_tree.specs.View.{tree}
+use Rattle.px_tree.specs.Step.{group}
 use Rattle.px_steps.proofs.GroupStep.{group_answer, key_cause, keys_fit, names_once, refusals_apart, some_column}
 use Rattle.px_steps.proofs.Selected.{refusal_cause}
 use Rattle.px_steps.proofs.group_step.group_step.Goals as goal
@@ -43,4 +43,4 @@ grouped_frame-requires-clause-accepted g c =
 pub returns-clause-answer : goal.returns-clause-answer
 returns-clause-answer g c =
     group_answer c.args.frame.now (map tree c.args.keys.now) (map tree c.args.aggs.now) c.in_ok-schema.ensures.0 c.in_ok-by.by.items c.in_ok-by.ensures.answer.1 c.grouped_frame.result c.in_ok-by.ensures.answer.0
-    (rw c.deref.ensures.value at c.grouped_frame.ensures.answer)
+    (rw c.deref.ensures.value at c.grouped_frame.ensures.answer) c.grouped_frame.ensures.short

@@ -8,8 +8,8 @@ use Rattle.px_frame.specs.Aggregate.{key_column}
 use Rattle.px_frame.specs.External.{alone}
 use Rattle.px_frame.specs.Frame.{height_of}
 use Rattle.px_frame.specs.Groups.{groups_by}
-use Rattle.px_expression.specs.Size.{size_on}
-use Rattle.px_expression.specs.View.{tree}
+use Rattle.px_tree.specs.Size.{size_on}
+use Rattle.px_tree.specs.View.{tree}
 use Rattle.px_steps.specs.Finds.{Lacks, part_faults, part_frames}
 use Rattle.px_steps.specs.Plain.{columns_on, greatest}
 use Rattle.px_steps.proofs.Columns.{keys_high}
@@ -48,4 +48,4 @@ returns-clause-answer g c =
     let keys : c.in_ok-columns.columns.items ≡ map (key_column c.in_ok-groups.groups.groups) by = cc (c.in_ok-columns.ensures) in
     let made : columns_on F ts by ≡ Some new = columns_found F ts by c.in_ok-groups.groups _ new groups keys c.in_ok-push_aggregations.ensures.answer.1 in
     let sound = sym (ap (λ (ps : List (List ℕ)). flat_map (part_faults F ps) ts) (parts_found cs by c.in_ok-groups.groups groups)) ∙ c.in_ok-push_aggregations.ensures.answer.0 in
-    finds_same c.new.result new (columns_on F ts by) _ _ (subst (λ (r : Result (List Series) PxError). Answers c.new.result r) (frame_made F ts by new made c.requires.names) c.new.ensures) made sound
+    finds_same c.new.result new (columns_on F ts by) _ _ (subst (λ (r : Result (List Series) PxError). Answers c.new.result r) (frame_made F ts by new made c.requires.names) c.new.ensures.answer) made sound

@@ -6,14 +6,14 @@ use Rattle.px_expr.specs.Planned.{Planned}
 use Rattle.px_frame.specs.CellView.{named_cell}
 use Rattle.px_frame.specs.External.{alone}
 use Rattle.px_frame.specs.Schema.{column_field}
-use Rattle.px_expression.specs.Typing.{Scope, refusals_of}
-use Rattle.px_expression.specs.Value.{faults_on}
-use Rattle.px_expression.specs.View.{tree}
-use Rattle.px_expression.specs.declared.context.Context.TheVariants.{Default}
+use Rattle.px_tree.specs.Typing.{Scope, refusals_of}
+use Rattle.px_tree.specs.Value.{faults_on}
+use Rattle.px_tree.specs.View.{tree}
+use Rattle.px_tree.specs.declared.context.Context.TheVariants.{Default}
 use Rattle.px_steps.specs.Plain.{named_value}
 use Rattle.px_steps.proofs.GroupStep.{key_finds, key_lacks}
 use Rattle.px_steps.proofs.Grouping.{no_first}
-use Rattle.px_expression.specs.KindLaws.{none_left as nil_left}
+use Rattle.px_tree.specs.KindLaws.{none_left as nil_left}
 use Rattle.px_steps.proofs.group_step.key_column.Goals as goal
 
 pub returns-in_err-node-clause-answer : goal.returns-in_err-node-clause-answer

@@ -1,10 +1,10 @@
 use Rattle.std.proofs.Common.{◌∙◌, map}
 use Rattle.std.proofs.lemmas.Result.{err_from_is_err_and}
-use Rattle.px_expr.specs.Built.{is_built_tree}
+use Rattle.px_tree.specs.Built.{is_built_tree}
 use Rattle.px_frame.specs.External.{alone}
 use Rattle.px_frame.specs.Groups.{rows_of}
-use Rattle.px_expression.specs.Size.{size_on}
-use Rattle.px_expression.specs.View.{tree}
+use Rattle.px_tree.specs.Size.{size_on}
+use Rattle.px_tree.specs.View.{tree}
 use Rattle.px_steps.specs.Finds.{part_faults, part_frames}
 use Rattle.px_steps.specs.Plain.{agg_refusals, aggregated_on}
 use Rattle.px_steps.proofs.Members.{in_all, in_here, in_none, lacks_in, sound_next, values_next}

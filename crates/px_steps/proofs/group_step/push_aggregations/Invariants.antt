@@ -3,7 +3,7 @@ use Rattle.std.specs.List.{flat_map}
 use Rattle.px_value.specs.Option.{each}
 use Rattle.px_frame.specs.External.{alone}
 use Rattle.px_frame.specs.Groups.{rows_of}
-use Rattle.px_expression.specs.View.{tree}
+use Rattle.px_tree.specs.View.{tree}
 use Rattle.px_steps.specs.Finds.{part_faults}
 use Rattle.px_document.specs.Form.{with_front}
 use Rattle.px_steps.specs.Plain.{aggregated_on}

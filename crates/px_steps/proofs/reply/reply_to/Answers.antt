@@ -19,10 +19,10 @@ returns-in-Ok-run_steps-clause-grouped g c =
 pub returns-in-Ok-run_steps-clause-reply : goal.returns-in-Ok-run_steps-clause-reply
 returns-in-Ok-run_steps-clause-reply g c =
     let doc = document_view c.in-Ok.document in
-    let sound = rw c.deref.ensures.value at c.in-Ok-run_steps.ensures.sound in
+    let run = rw c.deref.ensures.value at c.in-Ok-run_steps.ensures.run in
     let plain = rw c.deref.ensures.value at c.in-Ok-run_steps.ensures.plain in
     IfOk-weaker c.frame_reply.result _ _
-    (λ r e. subst (Replies c.args.bytes.now) (sym e.1) (is_result c.args.bytes.now e.0 doc c.in-Ok-run_steps.frame c.in-Ok.ensures.found sound plain e.2))
+    (λ r e. subst (Replies c.args.bytes.now) (sym e.1) (is_result c.args.bytes.now e.0 doc c.in-Ok-run_steps.frame c.in-Ok.ensures.found run plain e.2))
     c.frame_reply.ensures
 
 pub returns : goal.returns

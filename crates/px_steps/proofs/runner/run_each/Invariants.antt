@@ -2,10 +2,10 @@ use Rattle.std.proofs.Common.{◌≡◌, ◌+◌, List, Result, drop, map, true}
 use Rattle.std.specs.List.{list_all}
 use Rattle.px_value.specs.Series.{Series}
 use Rattle.px_value.specs.declared.error.PxError.{PxError}
-use Rattle.px_document.specs.Built.{is_built}
+use Rattle.px_tree.specs.Built.{is_built}
 use Rattle.px_steps.specs.Causes.{StepsAnswer}
 use Rattle.px_steps.specs.Plain.{groupings_of}
-use Rattle.px_document.specs.Step.{step_view}
+use Rattle.px_tree.specs.Step.{step_view}
 use Rattle.px_steps.proofs.runner.run_each.Given as goal
 
 abbrev pub invariant-loop-step : goal.invariant-loop-step

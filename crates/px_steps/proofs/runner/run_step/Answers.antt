@@ -1,6 +1,6 @@
 use Rattle.std.proofs.Common.{ap, map, option_map}
-use Rattle.px_expression.specs.View.{tree}
-use Rattle.px_document.specs.Step.{step_view}
+use Rattle.px_tree.specs.View.{tree}
+use Rattle.px_tree.specs.Step.{step_view}
 use Rattle.px_steps.proofs.Grouped.{group_built, group_run}
 use Rattle.px_steps.proofs.runner.run_step.Goals as goal
 

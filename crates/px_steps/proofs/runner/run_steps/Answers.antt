@@ -1,5 +1,5 @@
 use Rattle.std.proofs.Common.{map}
-use Rattle.px_document.specs.Step.{step_view}
+use Rattle.px_tree.specs.Step.{step_view}
 use Rattle.px_steps.proofs.StepLoop.{answer_whole, complete_told}
 use Rattle.px_steps.proofs.runner.run_steps.Goals as goal
 

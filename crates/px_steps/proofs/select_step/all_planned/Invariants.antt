@@ -1,11 +1,11 @@
 use Rattle.std.proofs.Common.{◌≡◌, ◌++◌, map, drop, true}
 use Rattle.std.specs.List.{flat_map, list_all}
-use Rattle.px_expr.specs.Built.{is_built_tree}
+use Rattle.px_tree.specs.Built.{is_built_tree}
 use Rattle.px_expr.specs.NodeView.{plan_of}
 use Rattle.px_expr.specs.Plan.{planned_over}
-use Rattle.px_expression.specs.Typing.{refusals_of}
-use Rattle.px_expression.specs.View.{tree}
-use Rattle.px_expression.specs.declared.context.Context.TheVariants.{Default}
+use Rattle.px_tree.specs.Typing.{refusals_of}
+use Rattle.px_tree.specs.View.{tree}
+use Rattle.px_tree.specs.declared.context.Context.TheVariants.{Default}
 use Rattle.px_steps.proofs.select_step.all_planned.Given as goal
 
 abbrev pub invariant-loop-expr : goal.invariant-loop-expr

@@ -5,7 +5,7 @@ use Rattle.px_value.specs.declared.error.PxError.{PxError}
 use Rattle.px_expr.specs.NodeView.{plan_of}
 use Rattle.px_frame.specs.CellView.{named_cell}
 use Rattle.px_frame.specs.External.{alone}
-use Rattle.px_expression.specs.Value.{faults_on}
+use Rattle.px_tree.specs.Value.{faults_on}
 use Rattle.px_steps.specs.Causes.{IsCauseOfAny}
 use Rattle.px_document.specs.Form.{with_front}
 use Rattle.px_steps.specs.Plain.{named_value}

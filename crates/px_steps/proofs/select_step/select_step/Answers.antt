@@ -5,8 +5,8 @@ use Rattle.px_expr.specs.Planned.{Planned}
 use Rattle.px_frame.specs.CellView.{named_cell}
 use Rattle.px_frame.specs.External.{alone}
 use Rattle.px_frame.specs.Schema.{column_field}
-use Rattle.px_expression.specs.Value.{faults_on}
-use Rattle.px_expression.specs.View.{tree}
+use Rattle.px_tree.specs.Value.{faults_on}
+use Rattle.px_tree.specs.View.{tree}
 use Rattle.px_steps.specs.Causes.{IsCauseOfAny}
 use Rattle.px_steps.specs.Meets.{IsFirst}
 use Rattle.px_steps.specs.Plain.{named_value}
@@ -52,4 +52,4 @@ returns-clause-answer g c =
     selected ts cs (map named_cell c.in_ok-cells.cells.items) c.assemble.result (sym (typed_over c.in_ok-schema-2.schema.value cs ts scope) ∙ c.in_ok-nodes.ensures.0) c.in_ok-distinct_names.ensures.0
     (sym (each_node (named_value (alone cs)) over items ts nodes) ∙ (rw c.deref.ensures.value at c.in_ok-cells.ensures.values))
     (sym (flat_node (λ t. faults_on t (alone cs)) over items ts nodes) ∙ (rw c.deref.ensures.value at c.in_ok-cells.ensures.sound))
-    c.assemble.ensures
+    c.assemble.ensures.answer c.assemble.ensures.short

@@ -1,5 +1,5 @@
 use Rattle.std.proofs.Common.{◌∙◌, Some, ap, sym, map}
-use Rattle.px_expression.specs.Tree.{column}
+use Rattle.px_tree.specs.Tree.{column}
 use Rattle.px_vectors.specs.PlainStep.{tree_of}
 use Rattle.px_vectors.proofs.PlainAnswer.{some_key, step_answer}
 use Rattle.px_vectors.proofs.plain_step.grouped_frame.Goals as goal

@@ -1,11 +1,11 @@
 use Rattle.std.proofs.Common.{◌≡◌, map, drop}
 use Rattle.serde_json.specs.View.{view}
-use Rattle.px_expression.specs.View.{tree}
+use Rattle.px_tree.specs.View.{tree}
 use Rattle.px_value.specs.Option.{each}
 use Rattle.px_document.specs.ExprForm.{expr_of}
 use Rattle.px_document.specs.Form.{with_front}
 use Rattle.px_document.specs.Readable.{only_if}
-use Rattle.px_expr.specs.Built.{is_built_tree}
+use Rattle.px_tree.specs.Built.{is_built_tree}
 use Rattle.px_document.proofs.document.expr.read_each.Given as goal
 
 -- what was read and what is left are all

@@ -3,8 +3,8 @@ use Rattle.serde_json.specs.View.{view}
 use Rattle.px_value.specs.Option.{each}
 use Rattle.px_document.specs.Form.{with_front}
 use Rattle.px_document.specs.Readable.{only_if}
-use Rattle.px_document.specs.Built.{is_built}
-use Rattle.px_document.specs.Step.{step_view}
+use Rattle.px_tree.specs.Built.{is_built}
+use Rattle.px_tree.specs.Step.{step_view}
 use Rattle.px_document.specs.StepForm.{any_step_of}
 use Rattle.px_document.proofs.document.step.read_each.Given as goal
 

@@ -1,6 +1,6 @@
 use Rattle.std.proofs.Common.{rules, sym}
 use Rattle.px_frame.specs.External.{alone}
-use Rattle.px_expression.specs.View.{literal_of}
+use Rattle.px_tree.specs.View.{literal_of}
 use Rattle.px_expr.proofs.Literals.{literal_cause}
 use Rattle.px_expr.proofs.literal.LiteralExprPhysicalExpr.evaluate.Goals as goal
 

@@ -18,4 +18,4 @@ returns c =
     let indices : c.deref-2.result.now ≡ map Some c.args.rows.now = cc (c.in_ok-indices.ensures, c.deref-2.ensures.value) in
     let columns : c.deref.result.now ≡ c.args.self.now = cc (c.deref.ensures.value, c.self.view_is) in
     let made : c.in_ok-take_columns.field-0.items ≡ map (taken_series (map Some c.args.rows.now)) c.args.self.now = cc (rw (indices, columns) at c.in_ok-take_columns.ensures) in
-    subst (λ (e : Result (List Series) PxError). Answers c.new.result e) (frame_of-rows c.args.rows.now c.args.self.now c.in_ok-take_columns.field-0.items frame made) c.new.ensures
+    subst (λ (e : Result (List Series) PxError). Answers c.new.result e) (frame_of-rows c.args.rows.now c.args.self.now c.in_ok-take_columns.field-0.items frame made) c.new.ensures.answer

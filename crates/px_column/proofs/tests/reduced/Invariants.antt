@@ -1,4 +1,0 @@
-use Rattle.px_column.proofs.tests.reduced.Given as goal
-
-abbrev pub ghosts-counted : goal.ghosts-counted
-ghosts-counted a = record { name = a.blank.name; parts = a.blank.parts }

@@ -1,4 +1,0 @@
-use Rattle.px_column.proofs.tests.sorted.Given as goal
-
-abbrev pub ghosts-counted_sort : goal.ghosts-counted_sort
-ghosts-counted_sort a = record { name = a.blank.name; parts = a.blank.parts }

@@ -1,0 +1,16 @@
+pub mod Tree
+pub mod View
+pub mod Shape
+pub mod Typing
+pub mod Node
+pub mod Window
+pub mod Value
+pub mod Size
+pub mod Nodes
+pub mod Core
+pub mod Partition
+pub mod Cost
+pub mod TreeCode
+pub mod KindLaws
+pub mod Step
+pub mod Built

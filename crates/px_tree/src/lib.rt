@@ -1,0 +1,19 @@
+//! Expressions and steps, their names, and what they mean on a frame.
+#![tactic(auto)]
+
+mod context;
+mod copy;
+mod expr;
+mod function;
+mod literal;
+mod naming;
+mod step;
+mod window;
+
+pub use context::Context;
+pub use expr::{AggExpr, Expr, Exprs};
+pub use function::FunctionExpr;
+pub use literal::LiteralValue;
+pub use naming::output_name;
+pub use step::Step;
+pub use window::{WindowMapping, WindowType};

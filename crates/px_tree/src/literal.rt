@@ -1,0 +1,75 @@
+//! Literals.
+ghost use Rattle.std.specs.Prelude.{◌≡◌, Ok};
+ghost use Rattle.px_value.specs.Answer.{AnswersBy};
+ghost use Rattle.px_tree.specs.Shape.{is_single};
+ghost use Rattle.px_tree.specs.View.{literal_of};
+
+use px_column::{ByteString, Column, DataType, Name, Px};
+use std::alloc::Global;
+
+/// A value, a range of integers or a column that an expression holds (polars `LiteralValue`).
+#[derive(Drop)]
+pub enum LiteralValue {
+    Boolean(bool),
+    Int8(i8),
+    Int16(i16),
+    Int32(i32),
+    Int64(i64),
+    UInt8(u8),
+    UInt16(u16),
+    UInt32(u32),
+    UInt64(u64),
+    String(Name),
+    Binary(ByteString),
+    /// A null of no other type.
+    Null,
+    /// The integers from `low` up to `high`, which is no part of them.
+    Range {
+        low: i64,
+        high: i64,
+        dtype: DataType,
+    },
+    /// A column of its own.
+    Series(Column),
+}
+
+impl LiteralValue {
+    /// Whether it is one value, and no range or column.
+    pub fn is_single(&self) -> bool
+        ensures { result ≡ is_single (literal_of self.now) }
+    {
+        !matches!(self, LiteralValue::Range { .. } | LiteralValue::Series(_))
+    }
+
+    /// An equal literal.
+    pub fn try_clone(&self, alloc: Global) -> Px<LiteralValue>
+        ensures { AnswersBy literal_of result (Ok (literal_of self.now)) }
+    {
+        match self {
+            LiteralValue::Boolean(b) => Ok(LiteralValue::Boolean(*b)),
+            LiteralValue::Int8(z) => Ok(LiteralValue::Int8(*z)),
+            LiteralValue::Int16(z) => Ok(LiteralValue::Int16(*z)),
+            LiteralValue::Int32(z) => Ok(LiteralValue::Int32(*z)),
+            LiteralValue::Int64(z) => Ok(LiteralValue::Int64(*z)),
+            LiteralValue::UInt8(n) => Ok(LiteralValue::UInt8(*n)),
+            LiteralValue::UInt16(n) => Ok(LiteralValue::UInt16(*n)),
+            LiteralValue::UInt32(n) => Ok(LiteralValue::UInt32(*n)),
+            LiteralValue::UInt64(n) => Ok(LiteralValue::UInt64(*n)),
+            LiteralValue::String(text) => Ok(LiteralValue::String(text.try_clone(alloc)?)),
+            LiteralValue::Binary(bytes) => Ok(LiteralValue::Binary(ByteString::from_slice(
+                alloc,
+                bytes.as_slice(),
+            )?)),
+            LiteralValue::Null => Ok(LiteralValue::Null),
+            LiteralValue::Range { low, high, dtype } => {
+                let dtype = dtype.try_clone(alloc)?;
+                Ok(LiteralValue::Range {
+                    low: *low,
+                    high: *high,
+                    dtype,
+                })
+            }
+            LiteralValue::Series(column) => Ok(LiteralValue::Series(column.try_clone(alloc)?)),
+        }
+    }
+}

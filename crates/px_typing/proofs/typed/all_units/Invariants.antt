@@ -1,0 +1,7 @@
+use Rattle.std.proofs.Common.{◌≡◌, drop}
+use Rattle.px_typing.specs.Facts.{all_units}
+use Rattle.px_typing.specs.FactsView.{all_facts_of}
+use Rattle.px_typing.proofs.typed.all_units.Given as goal
+
+abbrev pub invariant-loop-input : goal.invariant-loop-input
+invariant-loop-input l = all_units (all_facts_of l.inputs) ≡ all_units (all_facts_of (drop l.input-index l.inputs))
