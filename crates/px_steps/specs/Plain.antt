@@ -193,11 +193,11 @@ abbrev pub AreValid : List PlainStep → Frame → Type 0
 AreValid [] frame = Unit {0}
 AreValid (s ∷ steps) frame = IsValid s frame × ((next : Frame) → step_on s frame ≡ Some next → AreValid steps next)
 
--- how many times a step forms groups
+-- how many times a step forms groups: for steps without windows and without chunks
 abbrev pub groupings_in : PlainStep → ℕ
 groupings_in (group keys aggs chunks) = 1
 groupings_in _ = 0
 
--- how many times steps form groups
+-- how many times such steps form groups
 abbrev pub groupings_of : List PlainStep → ℕ
 groupings_of steps = sum_by groupings_in steps

@@ -106,7 +106,8 @@ key_with (Some keys) (Some order) n = key_where (spread_all n keys) (order_colum
 key_with _ _ n = []
 
 abbrev mutual
-  -- the keys of the windows in an expression. A window's function holds none, since no window stands on groups
+  -- the keys of the windows in an expression, for steps that are evaluated in one branch. A window's function holds none,
+  -- since no window stands on groups
   pub keys_on : Tree → Frame → List WindowKey
   keys_on (alias e n) frame = keys_on e frame
   keys_on (binary l op r) frame = keys_on l frame ++ keys_on r frame

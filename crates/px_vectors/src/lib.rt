@@ -1,6 +1,7 @@
 //! Worked examples of what frames, steps and texts mean, and plain programs that do what the definitions say.
 #![tactic(auto)]
 
+mod cost_examples;
 mod examples;
 mod form_examples;
 mod node_examples;
@@ -8,6 +9,7 @@ mod plain;
 mod plain_step;
 mod worked;
 
+pub use cost_examples::cost_examples;
 pub use examples::{
     fault_examples, group_examples, refusal_examples, select_examples, window_examples,
 };
