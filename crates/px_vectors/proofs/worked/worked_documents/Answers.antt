@@ -1,6 +1,7 @@
 use Rattle.std.proofs.Common.{◌≡◌, inl, inr, Some, None, codes, refl, lit<}
 use Rattle.std.specs.Int.{int_wrap}
 use Rattle.px_value.specs.declared.error.PxError.TheVariants.{ColumnNotFound}
+use Rattle.px_frame.specs.External.{alone}
 use Rattle.px_document.specs.Document.{Doc}
 use Rattle.px_document.specs.OnLiterals.{px_document_on_literals}
 use Rattle.px_vectors.specs.Worked.{four_grouped}
@@ -12,8 +13,8 @@ unfolding px_document_on_literals int_wrap
 returns-clause-result c = record {
   doc = four_rows_doc (codes "x");
   document = record { says = record { short = lit< tt; utf8 = (document_text (codes "x"), (refl, refl)); says = refl; readable = refl }; frame = record { distinct = refl; even = refl } };
-  sound = (record { accepted = refl; sound = refl }, λ next made. tt);
   made = four_grouped;
+  run = (alone four_grouped, (record { accepted = refl; sound = refl; made = refl; short = lit< tt }, refl));
   plain = refl;
   written = refl;
 }
