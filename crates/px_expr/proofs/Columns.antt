@@ -18,8 +18,8 @@ use Rattle.px_tree.specs.Value.{has_misfit}
 use Rattle.px_expr.specs.Planned.{Planned, PlannedColumn, found_by}
 use Rattle.px_expr.specs.Live.{field_on}
 use Rattle.px_expr.specs.Value.{IsValue, IsOneOf, IsCause, causes_on, unfound_refusal}
-use Rattle.px_value.specs.FitLaws.{both as both_true}
-use Rattle.px_frame.specs.LookLaws.{field_look, names_same}
+use Rattle.px_value.proofs.FitLaws.{both as both_true}
+use Rattle.px_frame.proofs.LookLaws.{field_look, names_same}
 
 -- a name passes its own test
 pub name_self : (n : List ℕ) → name_eq n n ≡ true

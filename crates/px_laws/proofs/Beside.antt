@@ -20,8 +20,8 @@ use Rattle.px_tree.specs.Tree.{Tree, called, Trees, Order, no_trees, one_tree, n
 use Rattle.px_tree.specs.Typing.{kind_in, kinds_in, kind_of_name, made_kind, function_kind, window_kind}
 use Rattle.px_tree.specs.Value.{value_on, outcome_on, made, cells_on, named_on, order_on, first_kind, whole_window, window_parts}
 use Rattle.px_laws.specs.Beside.{beside, is_column_of, are_columns_of}
-use Rattle.px_value.specs.FitLaws.{both}
-use Rattle.px_frame.specs.LookLaws.{field_look, look_rows as look_at}
+use Rattle.px_value.proofs.FitLaws.{both}
+use Rattle.px_frame.proofs.LookLaws.{field_look, look_rows as look_at}
 
 split : (columns : List Series) (xs ys : List (List ℕ)) → are_columns_of columns (xs ++ ys) ≡ true → (are_columns_of columns xs ≡ true) × (are_columns_of columns ys ≡ true)
 split columns [] ys h = (refl, h)

@@ -28,8 +28,8 @@ use Rattle.px_tree.specs.declared.function.FunctionExpr.{FunctionExpr}
 use Rattle.px_tree.specs.declared.function.FunctionExpr.TheVariants.{IsNull, IsNotNull, Not, IsBetween, IsIn, Reverse, Shift, DropNulls, NullCount, Explode}
 use Rattle.px_laws.proofs.Defined.{scope_of_rows}
 use Rattle.px_laws.proofs.Joining.{under_name, value_joins}
-use Rattle.px_value.specs.FitLaws.{both as both_true}
-use Rattle.px_tree.specs.KindLaws.{none_left, none_right, none_first, none_own}
+use Rattle.px_value.proofs.FitLaws.{both as both_true}
+use Rattle.px_tree.proofs.KindLaws.{none_left, none_right, none_first, none_own}
 use Rattle.px_laws.proofs.RowCount.{value_long}
 use Rattle.px_laws.proofs.Shapes.{bound, made_bound, made_ok, shape_of_value}
 use Rattle.px_laws.proofs.Sums.{sum_merges, count_merges}

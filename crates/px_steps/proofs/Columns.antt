@@ -13,8 +13,8 @@ use Rattle.px_tree.specs.Tree.{Tree}
 use Rattle.px_steps.specs.Finds.{is_key}
 use Rattle.px_value.specs.Option.{each}
 use Rattle.px_steps.specs.Plain.{key_values}
-use Rattle.px_value.specs.FitLaws.{both}
-use Rattle.px_frame.specs.LookLaws.{has_length}
+use Rattle.px_value.proofs.FitLaws.{both}
+use Rattle.px_frame.proofs.LookLaws.{has_length}
 
 pub and_then_some : {A B : Type 0} (o : Option A) (f : A → Option B) (b : B) → option_and_then f o ≡ Some b → (a : A) × (o ≡ Some a) × (f a ≡ Some b)
 and_then_some None f b h = cc

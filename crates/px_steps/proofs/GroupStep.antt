@@ -43,12 +43,12 @@ use Rattle.px_steps.specs.Meets.{IsFirst}
 use Rattle.px_steps.specs.Plain.{agg_refusals, aggregated_on, columns_on, first_of, frames_by, greatest, grouped_kind, height_fault, key_on, key_refusals, key_values, named_value, no_key_refusal, refused_by, repeat_refusal, step_faults, step_refusals, value_on_part, group_frames}
 use Rattle.px_tree.specs.Step.{group}
 use Rattle.px_steps.proofs.Columns.{all_append, all_true, and_then_some, heights_of_keys, keys_of_groups, made_each, names_of_keys, rows_of_groups}
-use Rattle.px_frame.specs.LookLaws.{has_length}
-use Rattle.px_frame.specs.LookLaws.{even_from}
+use Rattle.px_frame.proofs.LookLaws.{has_length}
+use Rattle.px_frame.proofs.LookLaws.{even_from}
 use Rattle.px_steps.proofs.Grouping.{accepted_lacks, no_refusal, value_there}
 use Rattle.px_steps.proofs.Selected.{name_kept, no_misfits, once_none, one_left, one_right, refuses_or}
 use Rattle.px_steps.proofs.Named.{IsFirst_append, refuses_first, refuses_none}
-use Rattle.px_tree.specs.KindLaws.{There, kind_there, none_left as nil_left, none_right as nil_right}
+use Rattle.px_tree.proofs.KindLaws.{There, kind_there, none_left as nil_left, none_right as nil_right}
 use Rattle.std.proofs.lemmas.List.{append-nil as append_nil, map-append as map_append}
 
 -- a name of some more that stands twice

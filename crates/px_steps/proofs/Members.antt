@@ -10,10 +10,10 @@ use Rattle.px_value.specs.Option.{each}
 use Rattle.px_document.specs.Form.{with_front}
 use Rattle.px_steps.specs.Meets.{IsFirst}
 use Rattle.px_steps.specs.Plain.{greatest}
-use Rattle.px_value.specs.FitLaws.{both}
+use Rattle.px_value.proofs.FitLaws.{both}
 use Rattle.px_steps.proofs.Named.{IsFirst_append}
 use Rattle.px_steps.proofs.Selected.{one_left, one_right}
-use Rattle.px_tree.specs.KindLaws.{none_left as nil_left, none_right as nil_right}
+use Rattle.px_tree.proofs.KindLaws.{none_left as nil_left, none_right as nil_right}
 
 -- an item stands in a list
 abbrev pub In : {A : Type 0} → A → List A → Type 0

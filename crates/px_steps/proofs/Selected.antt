@@ -31,7 +31,7 @@ use Rattle.px_tree.specs.Typing.{Scope, kind_in, kind_of_name, refusals_of, refu
 use Rattle.px_tree.specs.Value.{faults_on, is_misfit, has_misfit, value_on, named}
 use Rattle.px_tree.specs.declared.context.Context.{Context}
 use Rattle.px_tree.specs.declared.context.Context.TheVariants.{Default}
-use Rattle.px_frame.specs.LookLaws.{field_look as field-look}
+use Rattle.px_frame.proofs.LookLaws.{field_look as field-look}
 use Rattle.px_steps.specs.Meets.{MeetsBy, IsFirst}
 use Rattle.px_steps.specs.Finds.{Lacks}
 use Rattle.px_steps.specs.Causes.{IsCauseOfAny, IsStepCause, StepAnswers}
@@ -40,9 +40,9 @@ use Rattle.px_tree.specs.Step.{PlainStep, select}
 use Rattle.px_expr.specs.NodeView.{plan_of}
 use Rattle.px_expr.specs.declared.node.PhysExpr.{PhysExpr}
 use Rattle.px_steps.proofs.Columns.{made_each}
-use Rattle.px_value.specs.FitLaws.{both}
+use Rattle.px_value.proofs.FitLaws.{both}
 use Rattle.px_steps.proofs.Named.{IsFirst_append, refuses_first, refuses_none}
-use Rattle.px_tree.specs.KindLaws.{There, kind_there, name_there, none_left as nil_left, none_right as nil_right, none_first as inputs_none, none_own as own_none}
+use Rattle.px_tree.proofs.KindLaws.{There, kind_there, name_there, none_left as nil_left, none_right as nil_right, none_first as inputs_none, none_own as own_none}
 
 -- the planner's answer is told by the refusals
 pub planned_meets : {X : Type 0} (view : X → Planned) (t : Tree) (scope : Scope) (place : Context) (r : Result X PxError) → is_built_tree t ≡ true

@@ -14,7 +14,7 @@ use Rattle.px_steps.specs.Causes.{AreRun, IsCauseIn, StandsIn, StepAnswers, Step
 use Rattle.px_steps.specs.Plain.{AreValid, groupings_in, groupings_of, plain_on, step_on}
 use Rattle.px_tree.specs.Step.{PlainStep, step_view}
 use Rattle.px_tree.specs.declared.step.Step.{Step}
-use Rattle.px_value.specs.FitLaws.{both}
+use Rattle.px_value.proofs.FitLaws.{both}
 
 -- a step before others that answer
 pub answer_first : (s : PlainStep) (steps : List PlainStep) (cs next : List Series) (r : Result (List Series) PxError) → StepAnswers (Ok next) s cs → StepsAnswer r steps next → StepsAnswer r (s ∷ steps) cs

@@ -1,1 +1,3 @@
 pub mod OrderRows
+pub mod FitLaws
+pub mod LengthLaws

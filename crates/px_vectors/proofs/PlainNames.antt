@@ -9,14 +9,14 @@ use Rattle.px_value.specs.Series.{Series, slot_at}
 use Rattle.px_frame.specs.Cell.{Cell}
 use Rattle.px_frame.specs.Frame.{all_have_height, has_height, height_of, is_even, names_of}
 use Rattle.px_frame.specs.Groups.{first_row}
-use Rattle.px_value.specs.FitLaws.{both}
+use Rattle.px_value.proofs.FitLaws.{both}
 use Rattle.px_steps.specs.Direct.{kind_on, value_on, aggregated_on, grouped_kind, key_on, spread, value_on_part}
 use Rattle.px_tree.specs.Shape.{name_of, is_unit}
 use Rattle.px_tree.specs.Tree.{Tree}
 use Rattle.px_value.specs.Option.{each}
 use Rattle.px_steps.specs.Plain.{key_values}
 use Rattle.px_vectors.proofs.EachMade.{each_maps, each_passes}
-use Rattle.px_frame.specs.LookLaws.{has_length, even_from as as_tall}
+use Rattle.px_frame.proofs.LookLaws.{has_length, even_from as as_tall}
 
 key_name : (n : List ℕ) (h : ℕ) (k : Option Kind) (v : Option Cell) (s : Series) → option_and_then (λ j. option_map (λ c. record { name = n; kind = j; slots = spread h c }) v) k ≡ Some s → s.name ≡ n
 key_name n h None v s e = cc

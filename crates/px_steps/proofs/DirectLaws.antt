@@ -23,8 +23,8 @@ use Rattle.px_steps.specs.Direct as direct
 use Rattle.px_steps.specs.Plain as plain
 use Rattle.px_steps.specs.Plain.{first_of, key_values}
 use Rattle.px_tree.specs.Step.{PlainStep, group}
-use Rattle.px_value.specs.FitLaws.{both as all_and}
-use Rattle.px_frame.specs.LookLaws.{field_look as field-look, look_rows as look-at}
+use Rattle.px_value.proofs.FitLaws.{both as all_and}
+use Rattle.px_frame.proofs.LookLaws.{field_look as field-look, look_rows as look-at}
 use Rattle.std.proofs.lemmas.List.{append-nil as append_nil, map-append}
 
 kind_of_field : (o : Option Series) → option_map (λ (f : FieldKind). f.kind) (option_map column_field o) ≡ option_map (λ (s : Series). s.kind) o
