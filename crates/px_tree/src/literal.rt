@@ -10,23 +10,37 @@ use std::alloc::Global;
 /// A value, a range of integers or a column that an expression holds (polars `LiteralValue`).
 #[derive(Drop)]
 pub enum LiteralValue {
+    /// A truth.
     Boolean(bool),
+    /// A value of type Int8.
     Int8(i8),
+    /// A value of type Int16.
     Int16(i16),
+    /// A value of type Int32.
     Int32(i32),
+    /// A value of type Int64.
     Int64(i64),
+    /// A value of type UInt8.
     UInt8(u8),
+    /// A value of type UInt16.
     UInt16(u16),
+    /// A value of type UInt32.
     UInt32(u32),
+    /// A value of type UInt64.
     UInt64(u64),
+    /// A text.
     String(Name),
+    /// A list of bytes.
     Binary(ByteString),
     /// A null of no other type.
     Null,
     /// The integers from `low` up to `high`, which is no part of them.
     Range {
+        /// The first integer.
         low: i64,
+        /// The integer after the last.
         high: i64,
+        /// The type: Int32, Int64 or UInt32.
         dtype: DataType,
     },
     /// A column of its own.
