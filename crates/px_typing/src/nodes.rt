@@ -14,8 +14,8 @@ use px_column::{
     ComputeWhy, DataType, GroupByMethod, InvalidWhy, Name, Operator, Px, PxError, cast_type,
     is_boolean, is_integer, operator_type, reduced_type, same_type,
 };
-use px_tree::{Context, LiteralValue, WindowType};
 use px_frame::Schema;
+use px_tree::{Context, LiteralValue, WindowType};
 use std::alloc::Global;
 
 pub(crate) fn typed_column(alloc: Global, name: &Name, scope: &Schema) -> Px<Typed>
