@@ -145,7 +145,7 @@ only _ = Err (InvalidOperation Types)
 abbrev pub function_facts : Context → FunctionExpr → List Facts → Result Facts PxError
 function_facts place (IsBetween closed) inputs = compared_facts 3 (all_units inputs) inputs
 function_facts place IsIn inputs = compared_facts 2 (is_first_unit inputs) inputs
-function_facts place (called f) inputs = only inputs >>= λ a. one_input_facts place f a
+function_facts place f inputs = only inputs >>= λ a. one_input_facts place f a
 
 -- what is found of a filter by a mask
 abbrev pub filter_facts : Context → Facts → Facts → Result Facts PxError
