@@ -1,7 +1,9 @@
 //! Literals.
 ghost use Rattle.std.specs.Prelude.{◌≡◌, Ok};
 ghost use Rattle.px_value.specs.Answer.{AnswersBy};
+ghost use Rattle.px_value.specs.KindView.{kind_of};
 ghost use Rattle.px_tree.specs.Shape.{is_single};
+ghost use Rattle.px_tree.specs.Typing.{is_range_kind, literal_kind};
 ghost use Rattle.px_tree.specs.View.{literal_of};
 
 use px_column::{ByteString, Column, DataType, Name, Px};
@@ -47,7 +49,36 @@ pub enum LiteralValue {
     Series(Column),
 }
 
+/// Whether a range of integers can be of this type: Int32, Int64 or UInt32.
+pub fn is_range_type(dtype: &DataType) -> bool
+    ensures { result ≡ is_range_kind (kind_of dtype.now) }
+{
+    matches!(dtype, DataType::Int32 | DataType::Int64 | DataType::UInt32)
+}
+
 impl LiteralValue {
+    /// The type of its values (polars `LiteralValue::get_datatype`).
+    pub fn get_datatype(&self, alloc: Global) -> Px<DataType>
+        ensures { AnswersBy kind_of result (Ok (literal_kind (literal_of self.now))) }
+    {
+        match self {
+            LiteralValue::Boolean(_) => Ok(DataType::Boolean),
+            LiteralValue::Int8(_) => Ok(DataType::Int8),
+            LiteralValue::Int16(_) => Ok(DataType::Int16),
+            LiteralValue::Int32(_) => Ok(DataType::Int32),
+            LiteralValue::Int64(_) => Ok(DataType::Int64),
+            LiteralValue::UInt8(_) => Ok(DataType::UInt8),
+            LiteralValue::UInt16(_) => Ok(DataType::UInt16),
+            LiteralValue::UInt32(_) => Ok(DataType::UInt32),
+            LiteralValue::UInt64(_) => Ok(DataType::UInt64),
+            LiteralValue::String(_) => Ok(DataType::String),
+            LiteralValue::Binary(_) => Ok(DataType::Binary),
+            LiteralValue::Null => Ok(DataType::Null),
+            LiteralValue::Range { dtype, .. } => dtype.try_clone(alloc),
+            LiteralValue::Series(column) => column.dtype().try_clone(alloc),
+        }
+    }
+
     /// Whether it is one value, and no range or column.
     pub fn is_single(&self) -> bool
         ensures { result ≡ is_single (literal_of self.now) }
