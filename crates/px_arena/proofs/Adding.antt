@@ -73,6 +73,7 @@ AddsFront-after old first all mid new e a = record { front = first ++ a.front; r
 
 pub ruleset adding_rules = (length-append, postorder-length, all_postorder-length, order_postorder-length, tree_at-append, trees_at-append, AddsFront-none, AddsFront-more, AddsFront-after, append_assoc)
 
+-- what holds anyway holds where a call is refused
 pub OnErr-of : {X E : Type 0} (r : Result X E) (P : Type 0) → P → OnErr r P
 OnErr-of (Ok x) P p = tt
 OnErr-of (Err e) P p = p

@@ -5,7 +5,7 @@ use Rattle.px_value.specs.Datum.{Slot}
 use Rattle.px_value.specs.Kind.{Kind, slot_fits, slots_fit}
 use Rattle.px_value.specs.Series.{IsColumn}
 use Rattle.px_column.specs.Column.{taken_at}
-use Rattle.px_value.specs.FitLaws.{fits_at}
+use Rattle.px_value.proofs.FitLaws.{fits_at}
 
 fits_taken_at : (k : Kind) (xs : List Slot) (i : Option ℕ) → slots_fit k xs ≡ true → slot_fits k (taken_at xs i) ≡ true
 fits_taken_at k xs None h = refl

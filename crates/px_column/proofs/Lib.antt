@@ -9,3 +9,4 @@ pub mod Rising
 pub mod Inserting
 pub mod RowOrder
 pub mod Operating
+pub mod KeyLaws

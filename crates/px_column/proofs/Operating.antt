@@ -5,14 +5,14 @@ use Rattle.std.proofs.lemmas.List.{length-map, length-replicate}
 use Rattle.std.proofs.lemmas.Slice.Zip.{length-zip}
 use Rattle.std.proofs.lemmas.Bool.Decides.{nat_tests}
 use Rattle.px_value.specs.Datum.{Slot}
-use Rattle.px_value.specs.FitLaws.{both}
+use Rattle.px_value.proofs.FitLaws.{both}
 use Rattle.px_value.specs.Kind.{Kind, booleans, kind_back, kind_round, kind_eq, is_list_kind, slot_fits, slots_fit}
 use Rattle.px_value.specs.Series.{Series, IsColumn, slot_at}
 use Rattle.px_value.specs.declared.error.PxError.TheVariants.{InvalidOperation, ShapeMismatch}
 use Rattle.px_value.specs.declared.error.InvalidWhy.TheVariants.{ListKey, Types}
 use Rattle.px_value.specs.declared.operator.Operator.{Operator}
 use Rattle.px_operation.specs.Operator.{operator_kind, operated, operated_kind, kind_where, is_comparison}
-use Rattle.px_operation.specs.OperatorLaws.{fits_operated}
+use Rattle.px_operation.proofs.OperatorLaws.{fits_operated}
 use Rattle.px_column.proofs.Fitting.{fits_repeated}
 use Rattle.px_column.proofs.Taking.{take_row}
 use Rattle.px_column.specs.Operated.{common_length, rows_to, operated_rows}

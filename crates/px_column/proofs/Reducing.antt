@@ -14,8 +14,8 @@ use Rattle.px_value.specs.declared.error.PxError.{PxError}
 use Rattle.px_value.specs.declared.method.GroupByMethod.{GroupByMethod}
 use Rattle.px_value.specs.declared.method.GroupByMethod.TheVariants.{Min, Max, Sum, First, Last, NUnique, Count, Implode}
 use Rattle.px_column.proofs.Counting.{counted, distinct_count_le}
-use Rattle.px_value.specs.FitLaws.{both, fits_at}
-use Rattle.px_operation.specs.WrapLaws.{fits_wrapped}
+use Rattle.px_value.proofs.FitLaws.{both, fits_at}
+use Rattle.px_operation.proofs.WrapLaws.{fits_wrapped}
 
 -- a choice of two values
 abbrev Chooses : (Datum → Datum → Datum) → Type 0

@@ -1,5 +1,4 @@
 pub mod Key
-pub mod KeyLaws
 pub mod Column
 pub mod Repeat
 pub mod Operated

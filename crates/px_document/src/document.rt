@@ -21,13 +21,13 @@ mod place;
 mod step;
 mod type_name;
 
-use px_tree::Step;
 use column::read_columns;
 pub use fault::DocumentFault;
 use fields::{items, two_fields};
 use parsed::Parsed;
 use px_column::PxError;
 use px_frame::DataFrame;
+use px_tree::Step;
 use serde_json::Value;
 use std::alloc::Global;
 use step::read_steps;
@@ -35,7 +35,9 @@ use step::read_steps;
 /// A frame, and the steps that are done with it.
 #[derive(Drop)]
 pub struct Document {
+    /// The frame that the first step is done with.
     pub frame: DataFrame,
+    /// The steps in their order.
     pub steps: Vec<Step>,
 }
 

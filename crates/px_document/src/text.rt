@@ -6,4 +6,3 @@ pub(crate) mod json;
 mod value;
 
 pub use frame::frame_text;
-

@@ -32,8 +32,3 @@ alias_whole p q n set now h f = rw h (front_whole set (live_names q) (n ∷ []) 
 -- without a level an alias is not evaluated
 pub no_level : (p : Planned) (q : Tree) (n : List ℕ) (levels : ℕ) → p.tree ≡ alias q n → levels ≡ 0 → inline_on levels p.tree ≡ None
 no_level p q n levels h z = rw (h, z) refl
-
--- what holds anyway holds where a call is refused
-pub OnErr-of : {X E : Type 0} (r : Result X E) (P : Type 0) → P → OnErr r P
-OnErr-of (Ok x) P p = tt
-OnErr-of (Err e) P p = p

@@ -16,7 +16,7 @@ use Rattle.px_value.specs.declared.error.PxError.{PxError}
 use Rattle.px_value.specs.declared.value.Value.{Value}
 use Rattle.px_tree.specs.Typing.{is_range_kind}
 use Rattle.px_expr.specs.Literal.{range_column}
-use Rattle.px_value.specs.FitLaws.{both}
+use Rattle.px_value.proofs.FitLaws.{both}
 
 -- between two numbers of a range of numbers
 signed_between : (n : ℕ) (low high z : ℤ) (i : ℕ) → z ≡ low +ℤ pos i → i < natural (high -ℤ low) → is_signed n low ≡ true → is_signed n high ≡ true → is_signed n z ≡ true

@@ -188,6 +188,7 @@ impl AliasExpr {
 /// How a reduction reduces (polars `AggregationType`).
 #[derive(Clone, Copy, Debug, PartialEq, Eq)]
 pub struct AggregationType {
+    /// The reduction.
     pub groupby: GroupByMethod,
 }
 
@@ -304,9 +305,14 @@ impl CountExpr {
 #[cycle(node)]
 #[derive(Drop)]
 pub enum PhysExpr {
+    /// A column of the frame.
     Column(ColumnExpr),
+    /// A value, a range or a column of its own.
     Literal(LiteralExpr),
+    /// The value of a node under another name.
     Alias(AliasExpr),
+    /// A reduction of a node.
     Aggregation(AggregationExpr),
+    /// The number of rows.
     Count(CountExpr),
 }

@@ -7,19 +7,12 @@ ghost use Rattle.px_value.specs.Kind.{fits};
 ghost use Rattle.px_value.specs.KindView.{kind_of};
 ghost use Rattle.px_value.specs.View.{slot_of, slots_of};
 ghost use Rattle.px_tree.specs.Node.{natural};
-ghost use Rattle.px_tree.specs.Typing.{is_range_kind};
 ghost use Rattle.px_expr.specs.Literal.{range_column};
 
 use px_column::{Column, ComputeWhy, DataType, InvalidWhy, Name, Px, PxError, Value};
+use px_plan::is_range_type;
 use std::alloc::Global;
 use std::convert::TryFrom;
-
-/// Whether it is one of the three types of ranges.
-fn is_range_type(dtype: &DataType) -> bool
-    ensures { result ≡ is_range_kind (kind_of dtype.now) }
-{
-    matches!(dtype, DataType::Int32 | DataType::Int64 | DataType::UInt32)
-}
 
 /// The integer this many places after `low`.
 fn row_at(low: i64, place: u32) -> Option<Value>

@@ -10,7 +10,7 @@ use Rattle.px_frame.specs.Cell.{Cell, unit, rows}
 use Rattle.px_frame.specs.Frame.{names_of, height_of, has_height, all_have_height, is_even, IsFrame, first_repeat, unless_repeated}
 use Rattle.px_frame.specs.Spread.{NamedCell, spread, spread_all, with_slots, before_all}
 use Rattle.px_frame.proofs.Each.{has_height_is}
-use Rattle.px_value.specs.FitLaws.{both}
+use Rattle.px_value.proofs.FitLaws.{both}
 
 -- columns that are made already, before others
 abbrev pub after : List Series → Result (List Series) PxError → Result (List Series) PxError

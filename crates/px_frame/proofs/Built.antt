@@ -14,9 +14,9 @@ use Rattle.px_frame.specs.Enter.{entered, AreStarted}
 use Rattle.px_frame.specs.Groups.{IsGroups, group_of}
 use Rattle.px_frame.specs.GroupsView.{idx_group}
 use Rattle.px_frame.specs.Parts.{with_key, distinct, rows_of_keys, parts_of}
-use Rattle.px_frame.specs.PartLaws.{IsGroups-parts}
+use Rattle.px_frame.proofs.PartLaws.{IsGroups-parts}
 use Rattle.px_frame.proofs.Entering.{enter_made}
-use Rattle.px_column.specs.KeyLaws.{keys_push}
+use Rattle.px_column.proofs.KeyLaws.{keys_push}
 use Rattle.px_frame.proofs.Started.{groups_of_rows}
 
 laws : IsEquivalence row_eq

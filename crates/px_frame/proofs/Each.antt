@@ -4,7 +4,7 @@ use Rattle.std.specs.List.{list_all}
 use Rattle.std.proofs.lemmas.Bool.Decides.{nat_tests}
 use Rattle.std.proofs.lemmas.List.{length-map}
 use Rattle.px_column.specs.Column.{taken_at, all_within}
-use Rattle.px_value.specs.FitLaws.{both}
+use Rattle.px_value.proofs.FitLaws.{both}
 use Rattle.px_value.specs.Datum.{Slot}
 use Rattle.px_value.specs.Series.{Series, slot_at}
 use Rattle.px_frame.specs.Aggregate.{has_row, key_column}

@@ -7,7 +7,7 @@ use Rattle.std.specs.List.{list_any, position_or_len, IsDistinct, AllByRecursion
 use Rattle.std.proofs.lemmas.List.Folds.{list_any-append}
 use Rattle.std.proofs.lemmas.Map.Steps.{list_any_congr}
 use Rattle.px_frame.specs.Enter.{entered}
-use Rattle.px_frame.specs.PartLaws.{numbers_end}
+use Rattle.px_frame.proofs.PartLaws.{numbers_end}
 use Rattle.px_frame.specs.Parts.{numbers, with_key, distinct, rows_of_keys}
 
 module _ {K : Type 0} where

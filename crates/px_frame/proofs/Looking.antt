@@ -8,7 +8,7 @@ use Rattle.std.proofs.lemmas.List.Folds.{find_at}
 use Rattle.px_value.specs.Series.{Series}
 use Rattle.px_frame.specs.Frame.{name_eq, has_name, names_of, look, height_of, has_height, is_even}
 use Rattle.px_frame.proofs.Each.{has_height_is}
-use Rattle.px_value.specs.FitLaws.{both}
+use Rattle.px_value.proofs.FitLaws.{both}
 
 place_of_name : (n : List ℕ) (frame : List Series) → position_or_len (has_name n) frame ≡ position_or_len (name_eq n) (names_of frame)
 place_of_name n [] = refl

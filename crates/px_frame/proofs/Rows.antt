@@ -8,9 +8,9 @@ use Rattle.px_value.specs.Series.{Series, slot_at}
 use Rattle.px_value.specs.declared.error.PxError.{PxError}
 use Rattle.px_value.specs.declared.error.PxError.TheVariants.{ShapeMismatch}
 use Rattle.px_frame.proofs.Each.{has_height_is}
-use Rattle.px_value.specs.FitLaws.{both}
+use Rattle.px_value.proofs.FitLaws.{both}
 use Rattle.px_frame.specs.Frame.{names_of, all_have_height, has_height, is_even, IsFrame, frame_of, first_repeat, unless_repeated, are_below, are_in_all, taken_series, series_at, slots_at, subframe}
-use Rattle.px_frame.specs.LookLaws.{has_length}
+use Rattle.px_frame.proofs.LookLaws.{has_length}
 
 within_below : (n : ℕ) (rows : List ℕ) → all_within n (map Some rows) ≡ are_below n rows
 within_below n [] = refl

@@ -11,5 +11,3 @@ pub mod Ordered
 pub mod Aggregate
 pub mod Schema
 pub mod SchemaView
-pub mod PartLaws
-pub mod LookLaws

@@ -20,8 +20,9 @@ use Rattle.px_tree.specs.Tree.{Tree, called, Trees, Order, no_trees, one_tree, n
 use Rattle.px_tree.specs.Typing.{kind_in, kinds_in, kind_of_name, made_kind, function_kind, window_kind}
 use Rattle.px_tree.specs.Value.{value_on, outcome_on, made, cells_on, named_on, order_on, first_kind, whole_window, window_parts}
 use Rattle.px_laws.specs.Beside.{beside, is_column_of, are_columns_of}
-use Rattle.px_value.specs.FitLaws.{both}
-use Rattle.px_frame.specs.LookLaws.{field_look, look_rows as look_at}
+use Rattle.px_value.proofs.FitLaws.{both}
+use Rattle.px_frame.proofs.LookLaws.{field_look, look_rows as look_at}
+use Rattle.px_value.proofs.EachLaws.{each_same}
 
 split : (columns : List Series) (xs ys : List (List ℕ)) → are_columns_of columns (xs ++ ys) ≡ true → (are_columns_of columns xs ≡ true) × (are_columns_of columns ys ≡ true)
 split columns [] ys h = (refl, h)
@@ -103,10 +104,6 @@ look_beside n cs a h = by (look n cs) h
     by : (o : Option Series) → is_some o ≡ true → option_or o (look n a) ≡ o
     by None h = cc
     by (Some s) h = refl
-
-pub each_same : {A B : Type 0} (f g : A → Option B) (xs : List A) → ((x : A) → f x ≡ g x) → each f xs ≡ each g xs
-each_same f g [] h = refl
-each_same f g (x ∷ xs) h = λ i. h x i >>= λ y. option_map (λ ys. y ∷ ys) (each_same f g xs h i)
 
 abbrev named_as : Tree → Kind → Cell → NamedCell
 named_as t k c = record { name = name_of t; kind = k; cell = c }

@@ -20,9 +20,9 @@ use Rattle.px_tree.specs.Window.{OrderCell, parts_by, window_cell}
 use Rattle.px_tree.specs.declared.context.Context.{Context}
 use Rattle.px_tree.specs.declared.context.Context.TheVariants.{Default, Aggregation}
 use Rattle.px_tree.specs.declared.window.WindowMapping.{WindowMapping}
-use Rattle.px_tree.specs.KindLaws.{There, none_left, none_right, none_first, kind_there, kinds_there}
+use Rattle.px_tree.proofs.KindLaws.{There, none_left, none_right, none_first, kind_there, kinds_there}
 use Rattle.px_laws.proofs.Shapes.{bound, made_bound, map_found}
-use Rattle.px_frame.specs.LookLaws.{field_look}
+use Rattle.px_frame.proofs.LookLaws.{field_look}
 
 -- a name that has a type stands for a column
 pub missing_stays : (n : List ℕ) (fields : List FieldKind) (s : Series) → find (has_field_name n) fields ≡ None → has_name n s ≡ false → find (has_field_name n) (with_field fields s) ≡ None

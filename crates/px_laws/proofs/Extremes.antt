@@ -14,7 +14,7 @@ use Rattle.px_value.specs.Datum.{Datum, boolean, integer, text, bytes, list, Slo
 use Rattle.px_value.specs.Kind.{Kind, booleans, int8s, int16s, int32s, int64s, uint8s, uint16s, uint32s, uint64s, strings, binaries, nulls, lists, fits, slot_fits}
 use Rattle.px_value.specs.Order.{datum_cmp}
 use Rattle.px_operation.specs.Reduction.{values_of}
-use Rattle.px_value.specs.FitLaws.{both as both_true}
+use Rattle.px_value.proofs.FitLaws.{both as both_true}
 
 -- which kind of value a value is, and a type's values are
 abbrev pub sort_of : Datum → ℕ

@@ -32,8 +32,8 @@ use Rattle.px_tree.specs.declared.function.FunctionExpr.{FunctionExpr}
 use Rattle.px_tree.specs.declared.function.FunctionExpr.TheVariants.{IsNull, IsNotNull, Not, IsBetween, IsIn, Reverse, Shift, DropNulls, NullCount, Explode}
 use Rattle.px_laws.proofs.Defined.{scope_of_rows}
 use Rattle.px_laws.proofs.Shapes.{bound, made_bound, made_ok, result_bound}
-use Rattle.px_value.specs.FitLaws.{both as both_true}
-use Rattle.px_frame.specs.LookLaws.{look_rows as look_columns}
+use Rattle.px_value.proofs.FitLaws.{both as both_true}
+use Rattle.px_frame.proofs.LookLaws.{look_rows as look_columns}
 
 -- one unit twice, or two lists
 pub data Alike : Cell → Cell → Type 0 where

@@ -28,8 +28,8 @@ use Rattle.px_tree.specs.declared.function.FunctionExpr.{FunctionExpr}
 use Rattle.px_tree.specs.declared.function.FunctionExpr.TheVariants.{IsNull, IsNotNull, Not, IsBetween, IsIn, Reverse, Shift, DropNulls, NullCount, Explode}
 use Rattle.px_laws.proofs.Defined.{scope_of_rows}
 use Rattle.px_laws.proofs.Joining.{under_name, value_joins}
-use Rattle.px_value.specs.FitLaws.{both as both_true}
-use Rattle.px_tree.specs.KindLaws.{none_left, none_right, none_first, none_own}
+use Rattle.px_value.proofs.FitLaws.{both as both_true}
+use Rattle.px_tree.proofs.KindLaws.{none_left, none_right, none_first, none_own}
 use Rattle.px_laws.proofs.RowCount.{value_long}
 use Rattle.px_laws.proofs.Shapes.{bound, made_bound, made_ok, shape_of_value}
 use Rattle.px_laws.proofs.Sums.{sum_merges, count_merges}
@@ -39,7 +39,7 @@ use Rattle.px_laws.proofs.Typed.{value_sorted}
 use Rattle.px_laws.specs.Fitting.{has_fitting_columns, has_fitting_literals}
 use Rattle.std.proofs.lemmas.List.Folds.{list_all-append}
 use Rattle.px_laws.specs.Merge.{has_rows, are_parts, rows_of_parts, value_at, OnParts, is_extreme, PartsMerge}
-use Rattle.px_laws.proofs.Beside.{each_same}
+use Rattle.px_value.proofs.EachLaws.{each_same, each_some}
 
 -- what is mapped comes from what is there
 mapped : {A B : Type 0} (o : Option A) (f : A → B) (b : B) → option_map f o ≡ Some b → (a : A) × (o ≡ Some a) × (f a ≡ b)
@@ -368,17 +368,12 @@ height_within frame p = by frame.columns
     by [] = omega arith
     by (s ∷ columns) = omega (arith, length-map p (slot_at s.slots))
 
--- something is made of each where f always makes it
-each_there : {A B : Type 0} (f : A → B) (xs : List A) → each (λ x. Some (f x)) xs ≡ Some (map f xs)
-each_there f [] = refl
-each_there f (x ∷ xs) = ap (option_map (λ ys. f x ∷ ys)) (each_there f xs)
-
 -- lengths of parts are added
 len_merges : (frame : Frame) (k : Kind) (parts : List (List ℕ)) → OnParts len frame k parts → PartsMerge len frame k parts
 len_merges frame k parts on values h =
     let count : List ℕ → ℕ = λ p. height (rows_of_frame frame p) in
     let ek : uint32s ≡ k = let e : Some uint32s ≡ Some k = on.kind in cc in
-    let ev : map (λ p. count_slot (count p)) parts ≡ values = let e : Some (map (λ p. count_slot (count p)) parts) ≡ Some values = sym (each_there (λ p. count_slot (count p)) parts) ∙ h in cc in
+    let ev : map (λ p. count_slot (count p)) parts ≡ values = let e : Some (map (λ p. count_slot (count p)) parts) ≡ Some values = sym (each_some _ (λ p. count_slot (count p)) parts (λ p. refl)) ∙ h in cc in
     let few : count (rows_of_parts parts) < 2 ^ 32 = omega (arith, height_within frame (rows_of_parts parts), on.short) in
     ap Some (count_merges count parts (height_none frame) (height_joins frame) few ∙ (λ i. summed (ek i) (ev i)))
 

@@ -22,7 +22,7 @@ use Rattle.px_tree.specs.Value.{value_on, outcome_on, made, cells_on, first_kind
 use Rattle.px_tree.specs.declared.function.FunctionExpr.{FunctionExpr}
 use Rattle.px_tree.specs.declared.function.FunctionExpr.TheVariants.{IsNull, IsNotNull, Not, IsBetween, IsIn, Reverse, Shift, DropNulls, NullCount, Explode}
 use Rattle.px_laws.proofs.Joining.{same_list, neither, no_misfits, column_rows, under_name, before_parts, items_first, both_ok, length_zip}
-use Rattle.px_value.specs.FitLaws.{both as both_true}
+use Rattle.px_value.proofs.FitLaws.{both as both_true}
 use Rattle.px_laws.proofs.Shapes.{bound, made_bound, made_ok, result_bound}
 
 -- a unit, or n places

@@ -23,7 +23,7 @@ use Rattle.px_tree.specs.declared.function.FunctionExpr.{FunctionExpr}
 use Rattle.px_tree.specs.declared.function.FunctionExpr.TheVariants.{IsNull, IsNotNull, Not, IsBetween, IsIn, Reverse, Shift, DropNulls, NullCount, Explode}
 use Rattle.px_laws.proofs.Extremes.{kind_sort, is_slot_of}
 use Rattle.px_laws.proofs.Joining.{same_list, before_parts, items_first, both_ok}
-use Rattle.px_value.specs.FitLaws.{both as both_true}
+use Rattle.px_value.proofs.FitLaws.{both as both_true}
 use Rattle.px_laws.proofs.Shapes.{result_bound}
 
 -- each place of a list, or of a cell, is of a sort

@@ -11,7 +11,7 @@ use Rattle.px_value.specs.Kind.{Kind, booleans, int8s, int16s, int32s, int64s, u
 use Rattle.px_operation.specs.Reduction.{count_slot}
 use Rattle.px_operation.specs.Sum.{number_of, total, wrapped, is_sum_kind, summed}
 use Rattle.px_operation.specs.Wrap.{low_bits}
-use Rattle.px_operation.specs.WrapLaws.{low_bits_lt}
+use Rattle.px_operation.proofs.WrapLaws.{low_bits_lt}
 
 -- the numbers that a type of sums tells apart are those that a width does
 record Wraps (k : Kind) : Type 0 where

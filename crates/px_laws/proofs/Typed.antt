@@ -8,7 +8,7 @@ use Rattle.px_value.specs.Kind.{Kind, kind_eq, kind_number, kind_back, kind_roun
 use Rattle.px_operation.specs.Operator.{operated, kind_where, is_boolean_kind}
 use Rattle.px_value.specs.Series.{Series, slot_at}
 use Rattle.px_value.specs.declared.error.PxError.TheVariants.{SchemaMismatch}
-use Rattle.px_value.specs.FitLaws.{fits_at}
+use Rattle.px_value.proofs.FitLaws.{fits_at}
 use Rattle.px_frame.specs.Cell.{Cell, unit, rows}
 use Rattle.px_frame.specs.External.{Frame, look_in, scope_of, rows_of_frame, with_field}
 use Rattle.px_frame.specs.Frame.{look, has_name, name_eq, slots_at}
@@ -24,12 +24,12 @@ use Rattle.px_laws.proofs.Beside.{scope_stays}
 use Rattle.px_laws.proofs.Defined.{scope_of_rows, missing_stays}
 use Rattle.px_laws.proofs.Extremes.{kind_sort, slot_fits_sort}
 use Rattle.px_laws.proofs.Joining.{neither, no_misfits, column_rows, under_name}
-use Rattle.px_value.specs.FitLaws.{both as both_true}
-use Rattle.px_tree.specs.KindLaws.{none_left, none_right, none_first, none_own, kind_there}
+use Rattle.px_value.proofs.FitLaws.{both as both_true}
+use Rattle.px_tree.proofs.KindLaws.{none_left, none_right, none_first, none_own, kind_there}
 use Rattle.px_laws.proofs.Shapes.{bound, made_bound, made_ok}
 use Rattle.px_laws.proofs.Sorted.{is_cell_of, operated_sorted, cast_sorted, zip_sorted, three_sorted, choice_sorted, any_sorted, function_sorted, row_function_kind, rows_sorted, unit_sorted, as_kind}
 use Rattle.px_laws.specs.Fitting.{is_fitting, has_fitting_columns, is_fitting_literal, has_fitting_literals}
-use Rattle.px_frame.specs.LookLaws.{field_look, names_same}
+use Rattle.px_frame.proofs.LookLaws.{field_look, names_same}
 
 -- a name that finds no field is no field's name
 no_field : (n : List ℕ) (fields : List FieldKind) → find (has_field_name n) fields ≡ None → is_field_name n fields ≡ false

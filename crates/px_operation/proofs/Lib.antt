@@ -4,3 +4,5 @@ pub mod CastRows
 pub mod FunctionRows
 pub mod ReductionRows
 pub mod Numbers
+pub mod OperatorLaws
+pub mod WrapLaws

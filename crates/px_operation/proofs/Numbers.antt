@@ -7,7 +7,7 @@ use Rattle.std.proofs.lemmas.Int.{ints, int_rem_euclid_is, wrapping_mul_is}
 use Rattle.px_value.specs.Kind.{Kind, booleans, int8s, int16s, int32s, int64s, uint8s, uint16s, uint32s, uint64s, strings, binaries, nulls, lists}
 use Rattle.px_operation.specs.Operator.{floor_rem, is_integer_kind}
 use Rattle.px_operation.specs.Wrap.{low_bits, wrapped_in}
-use Rattle.px_operation.specs.WrapLaws.{low_bits_lt}
+use Rattle.px_operation.proofs.WrapLaws.{low_bits_lt}
 
 -- a remainder for a negative divisor, with all signs turned
 rest_back : (x : ℤ) (n : ℕ) → pos 0 -ℤ int_rem_euclid (neg_ℤ x) (pos (suc n)) ≡ floor_rem x (negsuc n)

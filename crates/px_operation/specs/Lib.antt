@@ -9,6 +9,4 @@ pub mod OperatorRows
 pub mod CastRows
 pub mod FunctionRows
 pub mod ReductionRows
-pub mod WrapLaws
 pub mod Operate
-pub mod OperatorLaws

@@ -13,8 +13,8 @@ use Rattle.px_tree.specs.Tree.{Tree}
 use Rattle.px_steps.specs.Finds.{is_key}
 use Rattle.px_value.specs.Option.{each}
 use Rattle.px_steps.specs.Plain.{key_values}
-use Rattle.px_value.specs.FitLaws.{both}
-use Rattle.px_frame.specs.LookLaws.{has_length}
+use Rattle.px_value.proofs.FitLaws.{both}
+use Rattle.px_frame.proofs.LookLaws.{has_length}
 
 pub and_then_some : {A B : Type 0} (o : Option A) (f : A → Option B) (b : B) → option_and_then f o ≡ Some b → (a : A) × (o ≡ Some a) × (f a ≡ Some b)
 and_then_some None f b h = cc
@@ -51,31 +51,10 @@ pub heights_of_keys : (ps : List (List ℕ)) (by : List Series) → all_have_hei
 heights_of_keys ps [] = refl
 heights_of_keys ps (s ∷ by) = λ i. has_length (length ps) (key_values ps s) (length-map ps (λ p. slot_at s.slots (first_row p))) i && heights_of_keys ps by i
 
--- what is seen of each made column is what is seen of its expression
-pub made_each : {S V : Type 0} (f : Tree → Option S) (seen : S → V) (of : Tree → V) (ts : List Tree) (made : List S) → ((t : Tree) (c : S) → f t ≡ Some c → seen c ≡ of t) → each f ts ≡ Some made
-    → map seen made ≡ map of ts
-made_each f seen of [] made h e = let none : made ≡ [] = cc in ap (map seen) none
-made_each f seen of (t ∷ ts) made h e =
-    let first = and_then_some (f t) (λ y. option_map (λ ys. y ∷ ys) (each f ts)) made e in
-    let rest = map_some (each f ts) (λ ys. first.0 ∷ ys) made first.2 in
-    ap (map seen) (sym rest.2) ∙ (λ i. h t first.0 first.1 i ∷ made_each f seen of ts rest.0 h rest.1 i)
-
 pub all_true : {X : Type 0} (test : Series → Bool) (xs : List X) (made : List Series) → map test made ≡ map (λ _. true) xs → list_all test made ≡ true
 all_true test xs [] e = refl
 all_true test [] (c ∷ made) e = cc
 all_true test (x ∷ xs) (c ∷ made) e = let first : test c ≡ true = cc in let rest : map test made ≡ map (λ _. true) xs = cc in λ i. first i && all_true test xs made rest i
-
-append_true : (a : Bool) (b : Bool) (c : Bool) → ((a && b) && c) ≡ (a && (b && c))
-append_true true b c = refl
-append_true false b c = refl
-
-pub all_append : (test : Series → Bool) (xs ys : List Series) → list_all test xs ≡ true → list_all test ys ≡ true → list_all test (xs ++ ys) ≡ true
-all_append test [] ys h k = k
-all_append test (x ∷ xs) ys h k = by (test x) (list_all test xs) h (all_append test xs ys)
-  where
-    by : (a b : Bool) → (a && b) ≡ true → (b ≡ true → list_all test ys ≡ true → list_all test (xs ++ ys) ≡ true) → (a && list_all test (xs ++ ys)) ≡ true
-    by true b e rest = rest e k
-    by false b e rest = cc
 
 un_not : (b : Bool) → not b ≡ true → b ≡ false
 un_not true h = cc

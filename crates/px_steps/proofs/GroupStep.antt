@@ -1,7 +1,7 @@
 -- A group step's keys and columns: what they are, and what the step answers.
 use Rattle.std.proofs.Common.{◌≡◌, ◌⊎◌, inl, inr, ℕ, zero, suc, ◌<◌, ◌^◌, ◌==◌, Bool, true, false, not, ◌&&◌, List, [], ◌∷◌, ◌++◌, Option, Some, None, Result, Ok, Err, length, option_map, option_and_then, map, refl, sym, ◌∙◌, ap, subst, arith, append_assoc, replicate, if◌then◌else◌}
 use Rattle.std.specs.Prelude.{IfOk}
-use Rattle.std.specs.List.{flat_map, list_all, list_any}
+use Rattle.std.specs.List.{Contains, flat_map, list_all, list_any}
 use Rattle.std.specs.Option.{option_map_or}
 use Rattle.std.specs.Result.{result_ok}
 use Rattle.std.proofs.lemmas.Bool.Decides.{nat_tests}
@@ -17,7 +17,7 @@ use Rattle.px_value.specs.declared.error.ComputeWhy.TheVariants.{NoKey}
 use Rattle.px_tree.specs.Built.{is_built_tree}
 use Rattle.px_expr.specs.Plan.{planned_over}
 use Rattle.px_expr.specs.Planned.{Planned}
-use Rattle.px_expr.specs.Value.{IsCause, IsOneOf}
+use Rattle.px_expr.specs.Value.{IsCause}
 use Rattle.px_frame.specs.Aggregate.{key_column}
 use Rattle.px_frame.specs.Cell.{Cell, unit, rows}
 use Rattle.px_frame.specs.External.{Frame, alone, height, rows_of_frame, scope_of}
@@ -42,14 +42,19 @@ use Rattle.px_document.specs.Form.{with_front}
 use Rattle.px_steps.specs.Meets.{IsFirst}
 use Rattle.px_steps.specs.Plain.{agg_refusals, aggregated_on, columns_on, first_of, frames_by, greatest, grouped_kind, height_fault, key_on, key_refusals, key_values, named_value, no_key_refusal, refused_by, repeat_refusal, step_faults, step_refusals, value_on_part, group_frames}
 use Rattle.px_tree.specs.Step.{group}
-use Rattle.px_steps.proofs.Columns.{all_append, all_true, and_then_some, heights_of_keys, keys_of_groups, made_each, names_of_keys, rows_of_groups}
-use Rattle.px_frame.specs.LookLaws.{has_length}
-use Rattle.px_frame.specs.LookLaws.{even_from}
+use Rattle.px_steps.proofs.Columns.{all_true, and_then_some, heights_of_keys, keys_of_groups, names_of_keys, rows_of_groups}
+use Rattle.px_frame.proofs.LookLaws.{has_length}
+use Rattle.px_frame.proofs.LookLaws.{even_from}
 use Rattle.px_steps.proofs.Grouping.{accepted_lacks, no_refusal, value_there}
-use Rattle.px_steps.proofs.Selected.{name_kept, no_misfits, once_none, one_left, one_right, refuses_or}
+use Rattle.px_steps.proofs.Selected.{name_kept, no_misfits, once_none, refuses_or}
 use Rattle.px_steps.proofs.Named.{IsFirst_append, refuses_first, refuses_none}
-use Rattle.px_tree.specs.KindLaws.{There, kind_there, none_left as nil_left, none_right as nil_right}
+use Rattle.px_tree.proofs.KindLaws.{There, kind_there, none_left as nil_left, none_right as nil_right}
 use Rattle.std.proofs.lemmas.List.{append-nil as append_nil, map-append as map_append}
+use Rattle.px_value.proofs.EachLaws.{each_maps}
+use Rattle.px_value.proofs.FitLaws.{all_append}
+use Rattle.std.proofs.lemmas.List.Folds.{flat_map-map}
+use Rattle.px_value.proofs.Standing.{at_head, in_none, in_same}
+use Rattle.std.proofs.lemmas.List.Elements.{Contains-append_cases, Contains-append_left, Contains-append_right}
 
 -- a name of some more that stands twice
 pub repeat_more : (seen first more : List (List ℕ)) → first_repeat seen first ≡ None → first_repeat seen (first ++ more) ≡ first_repeat (seen ++ first) more
@@ -127,7 +132,7 @@ key_name frame t s h =
     (spread_made (height frame) first.0 s first.2).0 ∙ name_kept frame t first.0 first.1
 
 pub key_names : (frame : Frame) (ts : List Tree) (by : List Series) → each (key_on frame) ts ≡ Some by → names_of by ≡ map name_of ts
-key_names frame ts by h = made_each (key_on frame) (λ s. s.name) name_of ts by (key_name frame) h
+key_names frame ts by h = each_maps (key_on frame) (λ s. s.name) name_of (key_name frame) ts by h
 
 no_list_refusal : (k : Kind) (o : Option Kind) (e : PxError) → o ≡ Some k → refused_where (fails not_list o) e ≡ [] → is_list_kind k ≡ false
 no_list_refusal k None e q h = cc
@@ -185,13 +190,13 @@ names_made frame ts by columns h =
     let ps = parts_of by (height frame) in
     let made = columns_apart frame ts by columns h in
     ap names_of (sym made.2) ∙ map_append (λ s. s.name) (map (key_values ps) by) made.0
-    ∙ (λ i. names_of_keys ps by i ++ made_each (aggregated_on frame ps) (λ s. s.name) name_of ts made.0 (λ t c e. (aggregated_seen frame ps t c e).0) made.1 i)
+    ∙ (λ i. names_of_keys ps by i ++ each_maps (aggregated_on frame ps) (λ s. s.name) name_of (λ t c e. (aggregated_seen frame ps t c e).0) ts made.0 made.1 i)
 
 even_made : (frame : Frame) (ts : List Tree) (by columns : List Series) → columns_on frame ts by ≡ Some columns → is_even columns ≡ true
 even_made frame ts by columns h =
     let ps = parts_of by (height frame) in
     let made = columns_apart frame ts by columns h in
-    let values = all_true (has_height (length ps)) ts made.0 (made_each (aggregated_on frame ps) (has_height (length ps)) (λ _. true) ts made.0 (λ t c e. has_length (length ps) c (aggregated_seen frame ps t c e).1) made.1) in
+    let values = all_true (has_height (length ps)) ts made.0 (each_maps (aggregated_on frame ps) (has_height (length ps)) (λ _. true) (λ t c e. has_length (length ps) c (aggregated_seen frame ps t c e).1) ts made.0 made.1) in
     even_from (length ps) columns (ap (all_have_height (length ps)) (sym made.2) ∙ all_append (has_height (length ps)) (map (key_values ps) by) made.0 (heights_of_keys ps by) values)
 
 -- the columns whose names are distinct make a frame
@@ -214,10 +219,6 @@ columns_found frame ts by g keys new e k h =
     front_made (map (key_values ps) by) (each (aggregated_on frame ps) ts) new (sym (λ i. with_front (values i) (each (aggregated_on frame (rows i)) ts)) ∙ h)
 
 -- the frames of the parts
-flat_map-map : {A B C : Type 0} (f : B → List C) (v : A → B) (xs : List A) → flat_map f (map v xs) ≡ flat_map (λ x. f (v x)) xs
-flat_map-map f v [] = refl
-flat_map-map f v (x ∷ xs) = ap (λ ys. f (v x) ++ ys) (flat_map-map f v xs)
-
 flat_map-same : {A C : Type 0} (f g : A → List C) (xs : List A) → ((x : A) → f x ≡ g x) → flat_map f xs ≡ flat_map g xs
 flat_map-same f g [] h = refl
 flat_map-same f g (x ∷ xs) h = λ i. h x i ++ flat_map-same f g xs h i
@@ -235,32 +236,23 @@ keys_sound frame (t ∷ ts) h =
     let heights = nil_right (faults_on t frame) (height_fault frame (value_on t frame)) own in
     (λ i. values i ++ rest.0 i, λ i. heights i ++ rest.1 i)
 
-one_apart : (e : PxError) (xs ys : List PxError) → IsOneOf e (xs ++ ys) → IsOneOf e xs ⊎ IsOneOf e ys
-one_apart e [] ys h = inr h
-one_apart e (x ∷ xs) ys (inl s) = inl (inl s)
-one_apart e (x ∷ xs) ys (inr h) = by (one_apart e xs ys h)
+key_fault_apart : (e : PxError) (frame : Frame) (ts : List Tree) → Contains (flat_map (key_faults frame) ts) e
+    → Contains (flat_map (λ t. faults_on t frame) ts) e ⊎ Contains (flat_map (λ t. height_fault frame (value_on t frame)) ts) e
+key_fault_apart e frame [] h = absurd (in_none e h)
+key_fault_apart e frame (t ∷ ts) h = by (Contains-append_cases (key_faults frame t) (flat_map (key_faults frame) ts) e h) (key_fault_apart e frame ts)
   where
-    by : IsOneOf e xs ⊎ IsOneOf e ys → IsOneOf e (x ∷ xs) ⊎ IsOneOf e ys
-    by (inl o) = inl (inr o)
-    by (inr o) = inr o
+    own : Contains (faults_on t frame) e ⊎ Contains (height_fault frame (value_on t frame)) e → Contains (flat_map (λ t. faults_on t frame) (t ∷ ts)) e ⊎ Contains (flat_map (λ t. height_fault frame (value_on t frame)) (t ∷ ts)) e
+    own (inl o) = inl (Contains-append_left (faults_on t frame) (flat_map (λ t. faults_on t frame) ts) e o)
+    own (inr o) = inr (Contains-append_left (height_fault frame (value_on t frame)) (flat_map (λ t. height_fault frame (value_on t frame)) ts) e o)
 
-key_fault_apart : (e : PxError) (frame : Frame) (ts : List Tree) → IsOneOf e (flat_map (key_faults frame) ts)
-    → IsOneOf e (flat_map (λ t. faults_on t frame) ts) ⊎ IsOneOf e (flat_map (λ t. height_fault frame (value_on t frame)) ts)
-key_fault_apart e frame [] h = absurd h
-key_fault_apart e frame (t ∷ ts) h = by (one_apart e (key_faults frame t) (flat_map (key_faults frame) ts) h) (key_fault_apart e frame ts)
-  where
-    own : IsOneOf e (faults_on t frame) ⊎ IsOneOf e (height_fault frame (value_on t frame)) → IsOneOf e (flat_map (λ t. faults_on t frame) (t ∷ ts)) ⊎ IsOneOf e (flat_map (λ t. height_fault frame (value_on t frame)) (t ∷ ts))
-    own (inl o) = inl (one_left e (faults_on t frame) (flat_map (λ t. faults_on t frame) ts) o)
-    own (inr o) = inr (one_left e (height_fault frame (value_on t frame)) (flat_map (λ t. height_fault frame (value_on t frame)) ts) o)
+    rest : Contains (flat_map (λ t. faults_on t frame) ts) e ⊎ Contains (flat_map (λ t. height_fault frame (value_on t frame)) ts) e → Contains (flat_map (λ t. faults_on t frame) (t ∷ ts)) e ⊎ Contains (flat_map (λ t. height_fault frame (value_on t frame)) (t ∷ ts)) e
+    rest (inl o) = inl (Contains-append_right (faults_on t frame) (flat_map (λ t. faults_on t frame) ts) e o)
+    rest (inr o) = inr (Contains-append_right (height_fault frame (value_on t frame)) (flat_map (λ t. height_fault frame (value_on t frame)) ts) e o)
 
-    rest : IsOneOf e (flat_map (λ t. faults_on t frame) ts) ⊎ IsOneOf e (flat_map (λ t. height_fault frame (value_on t frame)) ts) → IsOneOf e (flat_map (λ t. faults_on t frame) (t ∷ ts)) ⊎ IsOneOf e (flat_map (λ t. height_fault frame (value_on t frame)) (t ∷ ts))
-    rest (inl o) = inl (one_right e (faults_on t frame) (flat_map (λ t. faults_on t frame) ts) o)
-    rest (inr o) = inr (one_right e (height_fault frame (value_on t frame)) (flat_map (λ t. height_fault frame (value_on t frame)) ts) o)
-
-    by : IsOneOf e (key_faults frame t) ⊎ IsOneOf e (flat_map (key_faults frame) ts)
-        → (IsOneOf e (flat_map (key_faults frame) ts) → IsOneOf e (flat_map (λ t. faults_on t frame) ts) ⊎ IsOneOf e (flat_map (λ t. height_fault frame (value_on t frame)) ts))
-        → IsOneOf e (flat_map (λ t. faults_on t frame) (t ∷ ts)) ⊎ IsOneOf e (flat_map (λ t. height_fault frame (value_on t frame)) (t ∷ ts))
-    by (inl o) more = own (one_apart e (faults_on t frame) (height_fault frame (value_on t frame)) o)
+    by : Contains (key_faults frame t) e ⊎ Contains (flat_map (key_faults frame) ts) e
+        → (Contains (flat_map (key_faults frame) ts) e → Contains (flat_map (λ t. faults_on t frame) ts) e ⊎ Contains (flat_map (λ t. height_fault frame (value_on t frame)) ts) e)
+        → Contains (flat_map (λ t. faults_on t frame) (t ∷ ts)) e ⊎ Contains (flat_map (λ t. height_fault frame (value_on t frame)) (t ∷ ts)) e
+    by (inl o) more = own (Contains-append_cases (faults_on t frame) (height_fault frame (value_on t frame)) e o)
     by (inr o) more = rest (more o)
 
 -- a group step that is not refused
@@ -268,7 +260,7 @@ module _ (cs : List Series) (keys aggs : List Tree) (none : step_refusals (group
   accepted : first_of (step_refusals (group keys aggs None) (alone cs)) ≡ None
   accepted = ap first_of none
 
-  fault_told : (e : PxError) → IsOneOf e (step_faults (group keys aggs None) (alone cs)) → (e ≡ OutOfMemory) ⊎ IsStepCause e (group keys aggs None) (alone cs)
+  fault_told : (e : PxError) → Contains (step_faults (group keys aggs None) (alone cs)) e → (e ≡ OutOfMemory) ⊎ IsStepCause e (group keys aggs None) (alone cs)
   fault_told e o = inr (inr (accepted, inl o))
 
   abbrev key_values_faults : List PxError
@@ -286,9 +278,9 @@ module _ (cs : List Series) (keys aggs : List Tree) (none : step_refusals (group
   key_cause e (inr (inr l)) = inr (inr (accepted, inr (l.0, omega (arith, l.1))))
   key_cause e (inr (inl o)) = by (key_fault_apart e (alone cs) keys o)
     where
-      by : IsOneOf e key_values_faults ⊎ IsOneOf e key_height_faults → (e ≡ OutOfMemory) ⊎ IsStepCause e (group keys aggs None) (alone cs)
-      by (inl v) = fault_told e (one_left e ((key_values_faults ++ key_height_faults) ++ part_value_faults) _ (one_left e (key_values_faults ++ key_height_faults) part_value_faults (one_left e key_values_faults key_height_faults v)))
-      by (inr h) = fault_told e (one_left e ((key_values_faults ++ key_height_faults) ++ part_value_faults) _ (one_left e (key_values_faults ++ key_height_faults) part_value_faults (one_right e key_values_faults key_height_faults h)))
+      by : Contains key_values_faults e ⊎ Contains key_height_faults e → (e ≡ OutOfMemory) ⊎ IsStepCause e (group keys aggs None) (alone cs)
+      by (inl v) = fault_told e (Contains-append_left ((key_values_faults ++ key_height_faults) ++ part_value_faults) _ e (Contains-append_left (key_values_faults ++ key_height_faults) part_value_faults e (Contains-append_left key_values_faults key_height_faults e v)))
+      by (inr h) = fault_told e (Contains-append_left ((key_values_faults ++ key_height_faults) ++ part_value_faults) _ e (Contains-append_left (key_values_faults ++ key_height_faults) part_value_faults e (Contains-append_right key_values_faults key_height_faults e h)))
 
   -- what it answers, where its keys have columns
   module _ (by : List Series) (made : each (key_on (alone cs)) keys ≡ Some by) where
@@ -307,13 +299,13 @@ module _ (cs : List Series) (keys aggs : List Tree) (none : step_refusals (group
           accepted = accepted;
           sound = λ i. ((k.0 i ++ k.1 i) ++ (agg_faults ∙ h.0) i) ++ no_misfits cs (keys ++ aggs) i;
           made =
-            ap (λ o. option_map (λ columns. record (alone cs) { columns = columns }) (option_and_then (columns_on (alone cs) aggs) o)) made
-                ∙ ap (λ o. option_map (λ columns. record (alone cs) { columns = columns }) o) h.1;
+              ap (λ o. option_map (λ columns. record (alone cs) { columns = columns }) (option_and_then (columns_on (alone cs) aggs) o)) made
+              ∙ ap (λ o. option_map (λ columns. record (alone cs) { columns = columns }) o) h.1;
           short = short;
         }
     group_answer (Err e) sound (inl m) short = inl m
     group_answer (Err e) sound (inr (inl o)) short =
-        fault_told e (one_left e ((key_values_faults ++ key_height_faults) ++ part_value_faults) _ (one_right e (key_values_faults ++ key_height_faults) part_value_faults (subst (IsOneOf e) (sym agg_faults) o)))
+        fault_told e (Contains-append_left ((key_values_faults ++ key_height_faults) ++ part_value_faults) _ e (Contains-append_right (key_values_faults ++ key_height_faults) part_value_faults e (in_same e (sym agg_faults) o)))
     group_answer (Err e) sound (inr (inr l)) short =
         let size : greatest (map (λ t. size_on t (frames_by (alone cs) keys)) aggs) ≡ greatest (map (λ t. size_on t (part_frames (alone cs) (parts_of by (height_of cs)))) aggs) = ap (λ (fs : List Frame). greatest (map (λ t. size_on t fs) aggs)) frames in
         inr (inr (accepted, inr (l.0, omega (arith, l.1, size))))
@@ -360,7 +352,7 @@ names_once frame keys aggs by h made =
 
 lacks_left : (e : PxError) (xs ys : List PxError) (n : ℕ) → Lacks e xs n → Lacks e (xs ++ ys) n
 lacks_left e xs ys n (inl m) = inl m
-lacks_left e xs ys n (inr (inl o)) = inr (inl (one_left e xs ys o))
+lacks_left e xs ys n (inr (inl o)) = inr (inl (Contains-append_left xs ys e o))
 lacks_left e xs ys n (inr (inr l)) = inr (inr l)
 
 -- why a key has no value
@@ -383,7 +375,7 @@ key_finds cs t c r n value sound a =
   where
     refused : (e f : PxError) → (e ≡ OutOfMemory) ⊎ ◌≡◌ {A = Result Series PxError} (Err f) (Err e) → Lacks e (faults_on t (alone cs) ++ f ∷ []) n
     refused e f (inl m) = inl m
-    refused e f (inr s) = let same : f ≡ e = cc in inr (inl (one_right e (faults_on t (alone cs)) (f ∷ []) (inl (sym same))))
+    refused e f (inr s) = let same : f ≡ e = cc in inr (inl (Contains-append_right (faults_on t (alone cs)) (f ∷ []) e (in_same e (ap (λ g. g ∷ []) (sym same)) (at_head e []))))
 
     by : (q : Result (List Slot) PxError) (r : Result Series PxError) → Answers r (with_slots c q) → Finds r (result_ok (with_slots c q)) (faults_on t (alone cs) ++ refused_by q) n
     by (Ok xs) (Ok s) b = let same : record { name = c.name; kind = c.kind; slots = xs } ≡ s = cc in ((λ i. sound i ++ []), ap Some same)

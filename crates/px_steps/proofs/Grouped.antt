@@ -8,7 +8,7 @@ use Rattle.px_tree.specs.Tree.{Tree}
 use Rattle.px_tree.specs.Built.{is_built}
 use Rattle.px_steps.specs.Causes.{StepAnswers}
 use Rattle.px_tree.specs.Step.{PlainStep, group}
-use Rattle.px_value.specs.FitLaws.{both}
+use Rattle.px_value.proofs.FitLaws.{both}
 
 -- the keys and aggregations of a group step that is run have nodes, and it has no chunks
 pub group_built : (step : PlainStep) (keys aggs : List Tree) (chunks : Option (List ℕ)) → step ≡ group keys aggs chunks → is_built step ≡ true

@@ -31,15 +31,15 @@ use Rattle.px_tree.specs.Value.{faults_on, value_on}
 use Rattle.px_tree.specs.declared.context.Context.{Context}
 use Rattle.px_tree.specs.declared.context.Context.TheVariants.{Aggregation, Default}
 use Rattle.px_steps.specs.Direct as direct
-use Rattle.px_steps.specs.DirectLaws.{len_same, sum_refused, sum_same}
+use Rattle.px_steps.proofs.DirectLaws.{len_same, sum_refused, sum_same}
 use Rattle.px_steps.specs.Finds.{Finds, FindsBy, FitsGrouped, IsAccepted, Lacks, part_faults, part_frames, value_kind}
 use Rattle.px_steps.specs.Meets.{IsFirst, Meets}
 use Rattle.px_steps.specs.Plain.{agg_refusals, aggregated_on, grouped_kind, named_value, value_on_part}
 use Rattle.px_steps.proofs.Columns.{map_some}
-use Rattle.px_value.specs.FitLaws.{both}
+use Rattle.px_value.proofs.FitLaws.{both}
 use Rattle.px_steps.proofs.Members.{In, in_map, in_one, in_sum}
 use Rattle.px_steps.proofs.Selected.{cause_lacks, faults_alone}
-use Rattle.px_tree.specs.KindLaws.{kind_there, none_first as inputs_none, none_right as nil_right, none_own as own_none}
+use Rattle.px_tree.proofs.KindLaws.{kind_there, none_first as inputs_none, none_right as nil_right, none_own as own_none}
 
 -- where there is no refusal, memory was wanting
 pub no_first : (e : PxError) (refusals : List PxError) → refusals ≡ [] → IsFirst e refusals → e ≡ OutOfMemory

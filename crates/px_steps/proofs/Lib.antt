@@ -10,3 +10,4 @@ pub mod Replied
 pub mod StepLoop
 pub mod Endings
 pub mod Command
+pub mod DirectLaws

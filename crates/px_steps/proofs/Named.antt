@@ -19,7 +19,7 @@ use Rattle.px_steps.specs.Direct.{aggregated_on, agg_refusals, value_on_part}
 use Rattle.px_tree.specs.Tree.{column, agg, len}
 use Rattle.px_steps.specs.Meets.{IsFirst, Meets}
 use Rattle.px_steps.specs.Plain.{first_of}
-use Rattle.px_frame.specs.LookLaws.{look_rows as look-subframe}
+use Rattle.px_frame.proofs.LookLaws.{look_rows as look-subframe}
 
 -- a refusal that is expected is the first one
 pub refuses_first : (Y : Type 0) (e first : PxError) (rest : List PxError) → Refuses {Y = Y} e (Err first) → IsFirst e (first ∷ rest)

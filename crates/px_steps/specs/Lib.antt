@@ -2,7 +2,6 @@ pub mod Plain
 pub mod Direct
 pub mod Causes
 pub mod Finds
-pub mod DirectLaws
 pub mod Reply
 pub mod Meets
 pub mod Replies

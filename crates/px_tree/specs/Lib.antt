@@ -11,6 +11,5 @@ pub mod Core
 pub mod Partition
 pub mod Cost
 pub mod TreeCode
-pub mod KindLaws
 pub mod Step
 pub mod Built

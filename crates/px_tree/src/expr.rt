@@ -86,6 +86,7 @@ pub enum Expr {
 #[cycle(expr)]
 #[derive(Drop)]
 pub struct Exprs {
+    /// The expressions in their order.
     pub items: Rc<Vec<Expr>>,
 }
 

@@ -13,7 +13,7 @@ mod window;
 pub use context::Context;
 pub use expr::{AggExpr, Expr, Exprs};
 pub use function::FunctionExpr;
-pub use literal::LiteralValue;
+pub use literal::{LiteralValue, is_range_type};
 pub use naming::output_name;
 pub use step::Step;
 pub use window::{WindowMapping, WindowType};

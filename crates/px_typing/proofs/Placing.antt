@@ -11,14 +11,7 @@ use Rattle.px_tree.specs.Shape.{is_unit}
 use Rattle.px_tree.specs.Tree.{Tree, called, Trees, single, range, series, no_trees, one_tree, column, literal, alias, binary, ternary, cast, function, filter, slice, gather, sort, sort_by, agg, len, window}
 use Rattle.px_tree.specs.Typing.{Scope, kind_in, kinds_in, function_kind, refused_where, fails, refusal_of_all, scalar_refusal, grouped_function_refusals, is_one_input_missing, own_refusals, refusals_of, all_refusals_of, order_refusals_of, or_first, first_or_kind}
 use Rattle.px_tree.specs.declared.context.Context.TheVariants.{Default, Aggregation}
-
-none_left : (xs ys : List PxError) → xs ++ ys ≡ [] → xs ≡ []
-none_left [] ys h = refl
-none_left (x ∷ xs) ys h = absurd (cc h)
-
-none_right : (xs ys : List PxError) → xs ++ ys ≡ [] → ys ≡ []
-none_right [] ys h = h
-none_right (x ∷ xs) ys h = absurd (cc h)
+use Rattle.px_tree.proofs.KindLaws.{none_left, none_right}
 
 both_none : {a b c d : List PxError} → (a ≡ [] → b ≡ []) → (c ≡ [] → d ≡ []) → a ++ c ≡ [] → b ++ d ≡ []
 both_none {a} {b} {c} {d} f g h = rw (f (none_left a c h), g (none_right a c h))

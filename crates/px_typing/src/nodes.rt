@@ -4,18 +4,17 @@ ghost use Rattle.px_value.specs.Answer.{AnswersBy};
 ghost use Rattle.px_value.specs.KindView.{kind_of};
 ghost use Rattle.px_typing.specs.Facts.{column_facts, is_typed_literal, literal_facts, binary_facts, ternary_facts, cast_facts, filter_facts, slice_facts, gather_facts, sort_facts, sort_by_facts, agg_facts, window_facts, len_facts, is_list_order, is_literal_key, is_implode_key};
 ghost use Rattle.px_typing.specs.FactsView.{facts_of, all_facts_of};
-ghost use Rattle.px_tree.specs.Typing.{kind_of_name, literal_kind};
-ghost use Rattle.px_tree.specs.Shape.{is_single};
+ghost use Rattle.px_tree.specs.Typing.{kind_of_name};
 ghost use Rattle.px_tree.specs.View.{literal_of, mapping_of};
 
 use crate::typed::{Typed, all_literals, any_implode, have_list, is_scalar};
-use crate::types::{is_integer_or_null, is_range_type, window_type};
+use crate::types::{is_integer_or_null, window_type};
 use px_column::{
     ComputeWhy, DataType, GroupByMethod, InvalidWhy, Name, Operator, Px, PxError, cast_type,
     is_boolean, is_integer, operator_type, reduced_type, same_type,
 };
-use px_tree::{Context, LiteralValue, WindowType};
 use px_frame::Schema;
+use px_tree::{Context, LiteralValue, WindowType, is_range_type};
 use std::alloc::Global;
 
 pub(crate) fn typed_column(alloc: Global, name: &Name, scope: &Schema) -> Px<Typed>
@@ -32,27 +31,6 @@ pub(crate) fn typed_column(alloc: Global, name: &Name, scope: &Schema) -> Px<Typ
     }
 }
 
-fn literal_type(alloc: Global, value: &LiteralValue) -> Px<DataType>
-    ensures { AnswersBy kind_of result (Ok (literal_kind (literal_of value.now))) }
-{
-    match value {
-        LiteralValue::Boolean(_) => Ok(DataType::Boolean),
-        LiteralValue::Int8(_) => Ok(DataType::Int8),
-        LiteralValue::Int16(_) => Ok(DataType::Int16),
-        LiteralValue::Int32(_) => Ok(DataType::Int32),
-        LiteralValue::Int64(_) => Ok(DataType::Int64),
-        LiteralValue::UInt8(_) => Ok(DataType::UInt8),
-        LiteralValue::UInt16(_) => Ok(DataType::UInt16),
-        LiteralValue::UInt32(_) => Ok(DataType::UInt32),
-        LiteralValue::UInt64(_) => Ok(DataType::UInt64),
-        LiteralValue::String(_) => Ok(DataType::String),
-        LiteralValue::Binary(_) => Ok(DataType::Binary),
-        LiteralValue::Null => Ok(DataType::Null),
-        LiteralValue::Range { dtype, .. } => dtype.try_clone(alloc),
-        LiteralValue::Series(column) => column.dtype().try_clone(alloc),
-    }
-}
-
 /// Whether it is a range of a type that ranges are not of.
 fn is_range_refused(value: &LiteralValue) -> bool
     ensures { result ≡ not (is_typed_literal (literal_of value.now)) }
@@ -63,12 +41,6 @@ fn is_range_refused(value: &LiteralValue) -> bool
     }
 }
 
-fn is_single(value: &LiteralValue) -> bool
-    ensures { result ≡ is_single (literal_of value.now) }
-{
-    !matches!(value, LiteralValue::Range { .. } | LiteralValue::Series(_))
-}
-
 pub(crate) fn typed_literal(alloc: Global, value: &LiteralValue) -> Px<Typed>
     ensures { AnswersBy facts_of result (literal_facts (literal_of value.now)) }
 {
@@ -76,8 +48,8 @@ pub(crate) fn typed_literal(alloc: Global, value: &LiteralValue) -> Px<Typed>
         return Err(PxError::InvalidOperation(InvalidWhy::RangeType));
     }
     Ok(Typed {
-        dtype: literal_type(alloc, value)?,
-        is_unit: is_single(value),
+        dtype: value.get_datatype(alloc)?,
+        is_unit: value.is_single(),
         is_literal: true,
         has_implode: false,
     })

@@ -2,7 +2,7 @@
 ghost use Rattle.std.specs.Prelude.{◌≡◌, [], ◌∷◌, Ok};
 ghost use Rattle.px_value.specs.Answer.{AnswersBy};
 ghost use Rattle.px_value.specs.KindView.{kind_of};
-ghost use Rattle.px_tree.specs.Typing.{is_range_kind, is_integer_or_null, element_kind, function_kind, window_kind};
+ghost use Rattle.px_tree.specs.Typing.{is_integer_or_null, element_kind, function_kind, window_kind};
 
 use px_column::{DataType, InvalidWhy, Px, PxError, is_boolean, is_integer, type_where};
 use px_tree::{FunctionExpr, WindowMapping};
@@ -12,13 +12,6 @@ pub(crate) fn is_integer_or_null(dtype: &DataType) -> bool
     ensures { result ≡ is_integer_or_null (kind_of dtype.now) }
 {
     matches!(dtype, DataType::Null) || is_integer(dtype)
-}
-
-/// Whether a range of integers can be of this type.
-pub(crate) fn is_range_type(dtype: &DataType) -> bool
-    ensures { result ≡ is_range_kind (kind_of dtype.now) }
-{
-    matches!(dtype, DataType::Int32 | DataType::Int64 | DataType::UInt32)
 }
 
 /// The type of the values in lists of a type, `Types` where it is no type of lists.

@@ -14,12 +14,12 @@ use crate::nodes::{
     typed_agg, typed_binary, typed_cast, typed_column, typed_filter, typed_gather, typed_len,
     typed_literal, typed_slice, typed_sort, typed_sort_by, typed_ternary, typed_window,
 };
+use crate::typed::Typed;
 use px_column::{DataType, GroupByMethod, Px, SortOptions};
-use px_tree::{AggExpr, Context, Expr, Exprs, FunctionExpr};
 use px_frame::Schema;
+use px_tree::{AggExpr, Context, Expr, Exprs, FunctionExpr};
 use std::alloc::Global;
 use std::rc::Rc;
-use crate::typed::Typed;
 
 /// The type of an expression's values over a schema, in a context (polars `AExpr::get_dtype`). The
 /// first refusal is answered: the inputs' from left to right, then the expression's own. A window's

@@ -1,1 +1,5 @@
 pub mod OrderRows
+pub mod FitLaws
+pub mod LengthLaws
+pub mod EachLaws
+pub mod Standing

@@ -15,5 +15,3 @@ pub mod Answer
 pub mod Order
 pub mod Rows
 pub mod OrderRows
-pub mod LengthLaws
-pub mod FitLaws

@@ -3,8 +3,12 @@
 /// The ends that belong to an interval (polars `ClosedInterval`).
 #[derive(Clone, Copy, Debug, PartialEq, Eq)]
 pub enum ClosedInterval {
+    /// Both ends belong to it.
     Both,
+    /// The low end belongs to it, the high one does not.
     Left,
+    /// The high end belongs to it, the low one does not.
     Right,
+    /// No end belongs to it.
     None,
 }

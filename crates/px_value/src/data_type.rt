@@ -10,18 +10,31 @@ use std::alloc::Global;
 /// The type of a column's values (polars `DataType`, without its floats and its logical types).
 #[derive(Drop)]
 pub enum DataType {
+    /// Truths.
     Boolean,
+    /// Integers of 8 bits with a sign.
     Int8,
+    /// Integers of 16 bits with a sign.
     Int16,
+    /// Integers of 32 bits with a sign.
     Int32,
+    /// Integers of 64 bits with a sign.
     Int64,
+    /// Integers of 8 bits without a sign.
     UInt8,
+    /// Integers of 16 bits without a sign.
     UInt16,
+    /// Integers of 32 bits without a sign.
     UInt32,
+    /// Integers of 64 bits without a sign.
     UInt64,
+    /// Texts in UTF-8.
     String,
+    /// Lists of bytes.
     Binary,
+    /// Nulls alone.
     Null,
+    /// Lists of values of this type.
     List(Box<DataType>),
 }
 

@@ -19,7 +19,9 @@ pub struct SortOptions {
 /// descending, and whether its nulls come last.
 #[derive(Drop)]
 pub struct SortMultipleOptions {
+    /// For each key, whether its greatest values come first.
     pub descending: Flags,
+    /// For each key, whether its nulls come last, whatever the direction.
     pub nulls_last: Flags,
 }
 

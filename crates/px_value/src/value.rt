@@ -12,10 +12,15 @@ use std::marker::Model;
 #[cycle(value)]
 #[derive(Drop)]
 pub enum Value {
+    /// A truth.
     Boolean(bool),
+    /// An integer of any integer type.
     Int(i128),
+    /// A text.
     Text(Name),
+    /// A list of bytes.
     Bytes(ByteString),
+    /// A list of values, each of which may be missing.
     List(Values),
 }
 

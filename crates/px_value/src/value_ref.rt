@@ -19,10 +19,15 @@ use std::hash::{Hash, Hasher};
 /// A value, lent.
 #[derive(Clone, Copy)]
 pub enum ValueRef<'a> {
+    /// A truth.
     Boolean(bool),
+    /// An integer of any integer type.
     Int(i128),
+    /// A text.
     Text(&'a str),
+    /// A list of bytes.
     Bytes(&'a [u8]),
+    /// A list of values, each of which may be missing.
     List(&'a Values),
 }
 

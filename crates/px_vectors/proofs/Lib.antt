@@ -4,7 +4,6 @@ pub mod PlainKeys
 pub mod Told
 pub mod PlainParts
 pub mod PlainValues
-pub mod EachMade
 pub mod PlainNames
 pub mod PlainAnswer
 pub mod PlainWhole

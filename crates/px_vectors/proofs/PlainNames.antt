@@ -2,21 +2,20 @@
 use Rattle.std.proofs.Common.{◌≡◌, ℕ, true, ◌&&◌, List, [], ◌∷◌, ◌++◌, Option, Some, None, length, map, refl, ◌∙◌, ap, arith, option_map, option_and_then}
 use Rattle.std.proofs.lemmas.Bool.Decides.{nat_tests}
 use Rattle.std.proofs.lemmas.List.{length-map, map-append}
-use Rattle.std.proofs.lemmas.List.Folds.{list_all-append}
 use Rattle.px_value.specs.Datum.{Slot}
 use Rattle.px_value.specs.Kind.{Kind}
 use Rattle.px_value.specs.Series.{Series, slot_at}
 use Rattle.px_frame.specs.Cell.{Cell}
 use Rattle.px_frame.specs.Frame.{all_have_height, has_height, height_of, is_even, names_of}
 use Rattle.px_frame.specs.Groups.{first_row}
-use Rattle.px_value.specs.FitLaws.{both}
+use Rattle.px_value.proofs.FitLaws.{all_append, both}
 use Rattle.px_steps.specs.Direct.{kind_on, value_on, aggregated_on, grouped_kind, key_on, spread, value_on_part}
 use Rattle.px_tree.specs.Shape.{name_of, is_unit}
 use Rattle.px_tree.specs.Tree.{Tree}
 use Rattle.px_value.specs.Option.{each}
 use Rattle.px_steps.specs.Plain.{key_values}
-use Rattle.px_vectors.proofs.EachMade.{each_maps, each_passes}
-use Rattle.px_frame.specs.LookLaws.{has_length, even_from as as_tall}
+use Rattle.px_value.proofs.EachLaws.{each_maps, each_passes}
+use Rattle.px_frame.proofs.LookLaws.{has_length, even_from as as_tall}
 
 key_name : (n : List ℕ) (h : ℕ) (k : Option Kind) (v : Option Cell) (s : Series) → option_and_then (λ j. option_map (λ c. record { name = n; kind = j; slots = spread h c }) v) k ≡ Some s → s.name ≡ n
 key_name n h None v s e = cc
@@ -25,9 +24,6 @@ key_name n h (Some k) (Some c) s e = let same : s ≡ record { name = n; kind = 
 
 pub key_names : (frame : List Series) (keys : List Tree) (by : List Series) → each (key_on frame) keys ≡ Some by → names_of by ≡ map name_of keys
 key_names frame keys by = each_maps (key_on frame) (λ s. s.name) name_of (λ e s. key_name (name_of e) (height_of frame) (kind_on e frame) (value_on e frame) s) keys by
-
-all_append : (n : ℕ) (xs ys : List Series) → all_have_height n xs ≡ true → all_have_height n ys ≡ true → all_have_height n (xs ++ ys) ≡ true
-all_append n xs ys h k = list_all-append (has_height n) xs ys ∙ (λ i. h i && k i)
 
 module _ (frame : List Series) (ps : List (List ℕ)) where
   record IsAggregated (n : List ℕ) (s : Series) : Type 0 where
@@ -63,4 +59,4 @@ module _ (frame : List Series) (ps : List (List ℕ)) where
     made_names = map-append (λ (s : Series). s.name) (map (key_values ps) by) values ∙ (λ i. (keys_named by ∙ key_names frame keys by k) i ++ agg_names aggs values a i)
 
     pub made_even : is_even (map (key_values ps) by ++ values) ≡ true
-    made_even = as_tall (length ps) (map (key_values ps) by ++ values) (all_append (length ps) (map (key_values ps) by) values (keys_tall by) (aggs_tall aggs values a))
+    made_even = as_tall (length ps) (map (key_values ps) by ++ values) (all_append (has_height (length ps)) (map (key_values ps) by) values (keys_tall by) (aggs_tall aggs values a))

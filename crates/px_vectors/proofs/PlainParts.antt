@@ -10,8 +10,8 @@ use Rattle.px_value.specs.Series.{Series}
 use Rattle.px_frame.specs.Frame.{are_below}
 use Rattle.px_frame.specs.Groups.{group_of, is_group, IsGroups}
 use Rattle.px_frame.specs.Parts.{parts_of}
-use Rattle.px_frame.specs.PartLaws.{IsGroups-parts}
-use Rattle.px_value.specs.FitLaws.{both}
+use Rattle.px_frame.proofs.PartLaws.{IsGroups-parts}
+use Rattle.px_value.proofs.FitLaws.{both}
 use Rattle.px_vectors.specs.PlainStep.{IsPart}
 
 part_of_group : (n : ℕ) (p : List ℕ) → is_group n (group_of p) ≡ true → IsPart n p

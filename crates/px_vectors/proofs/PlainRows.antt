@@ -8,8 +8,8 @@ use Rattle.px_value.specs.Equality.{row_eq}
 use Rattle.px_column.specs.Key.{key_at, keys_of}
 use Rattle.px_value.specs.Series.{Series}
 use Rattle.px_frame.specs.Parts.{distinct, numbers}
-use Rattle.px_frame.specs.PartLaws.{keys_step, numbers_end}
-use Rattle.px_column.specs.KeyLaws.{keys_push}
+use Rattle.px_frame.proofs.PartLaws.{keys_step, numbers_end}
+use Rattle.px_column.proofs.KeyLaws.{keys_push}
 
 module _ (by : List Series) where
   -- a row whose key is new

@@ -9,7 +9,7 @@ use Rattle.px_frame.specs.Frame.{IsFrame}
 use Rattle.px_tree.specs.Tree.{column}
 use Rattle.px_steps.specs.Direct.{is_direct_group, is_direct_key, is_direct_agg}
 use Rattle.px_steps.specs.Direct as direct
-use Rattle.px_steps.specs.DirectLaws.{refusal_same, columns_same}
+use Rattle.px_steps.proofs.DirectLaws.{refusal_same, columns_same}
 use Rattle.px_steps.specs.Meets.{Meets}
 use Rattle.px_steps.specs.Plain as plain
 use Rattle.px_steps.specs.Plain.{first_of}

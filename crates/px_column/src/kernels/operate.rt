@@ -10,7 +10,6 @@ ghost use Rattle.px_operation.specs.Operate.{is_arithmetic};
 ghost use Rattle.px_operation.specs.Operator.{is_comparison};
 ghost use Rattle.px_column.specs.Operated.{appended_column, arithmetic_column, common_length, operated_column, operated_rows, rows_to};
 
-
 use crate::column::Column;
 use px_operation::{is_integer, operate, operator_type};
 use px_value::{DataType, InvalidWhy, Operator, Px, PxError, Steps, Value, ValueRef};

@@ -1,8 +1,9 @@
 use Rattle.std.proofs.Common.{rules, sym, ap}
 use Rattle.px_expr.specs.Live.{AddsFront, live_names}
 use Rattle.px_expr.specs.Planned.{Planned}
-use Rattle.px_expr.proofs.Names.{OnErr-of, alias_front, alias_whole}
+use Rattle.px_expr.proofs.Names.{alias_front, alias_whole}
 use Rattle.px_expr.proofs.+live.Goals as goal
+use Rattle.px_arena.proofs.Adding.{OnErr-of}
 
 pub alias::AliasExprPhysicalExpr::collect_live_columns-returns-in_err-collect_live_columns-clause-part : goal.alias::AliasExprPhysicalExpr::collect_live_columns-returns-in_err-collect_live_columns-clause-part
 alias::AliasExprPhysicalExpr::collect_live_columns-returns-in_err-collect_live_columns-clause-part t c =

@@ -1,5 +1,5 @@
 use Rattle.px_value.specs.Series.{slot_at}
-use Rattle.px_value.specs.LengthLaws.{differ_len_map}
+use Rattle.px_value.proofs.LengthLaws.{differ_len_map}
 use Rattle.px_column.proofs.row_key.same_rows.Goals as goal
 
 pub returns-then-a-b : goal.returns-then-a-b

@@ -7,7 +7,7 @@ use Rattle.px_value.specs.Kind.{uint32s, is_unsigned}
 use Rattle.px_frame.specs.Groups.{Group}
 use Rattle.px_frame.specs.GroupsView.{lent_group}
 use Rattle.px_frame.proofs.Made.{made_next}
-use Rattle.px_value.specs.FitLaws.{fit_next}
+use Rattle.px_value.proofs.FitLaws.{fit_next}
 use Rattle.px_frame.proofs.aggregate.counts.Goals as goal
 
 pub loop-index-preserved : goal.loop-index-preserved

@@ -8,7 +8,7 @@ use Rattle.px_frame.specs.Frame.{slots_at}
 use Rattle.px_frame.specs.Groups.{Group}
 use Rattle.px_frame.specs.GroupsView.{lent_group}
 use Rattle.px_frame.proofs.Made.{made_next}
-use Rattle.px_value.specs.FitLaws.{fit_next}
+use Rattle.px_value.proofs.FitLaws.{fit_next}
 use Rattle.px_frame.proofs.aggregate.sums.Goals as goal
 
 pub loop-index-preserved : goal.loop-index-preserved

@@ -1,5 +1,5 @@
 use Rattle.std.proofs.Common.{◌∙◌, ◌++◌, ◌∷◌, [], List, ℕ, ap, sym, ◌+◌}
-use Rattle.px_column.specs.KeyLaws.{range_next}
+use Rattle.px_column.proofs.KeyLaws.{range_next}
 use Rattle.px_frame.proofs.frame.rows_from.Goals as goal
 
 pub loop-index-preserved : goal.loop-index-preserved

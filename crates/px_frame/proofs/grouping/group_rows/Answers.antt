@@ -1,7 +1,7 @@
 use Rattle.std.proofs.Common.{◌≡◌, ap, sym, arith, map, Ok, ◌∙◌, ℕ, ◌^◌, ◌<◌}
 use Rattle.px_frame.specs.Groups.{group_of, groups_by}
 use Rattle.px_frame.specs.Parts.{parts_of}
-use Rattle.px_frame.specs.PartLaws.{keys_step}
+use Rattle.px_frame.proofs.PartLaws.{keys_step}
 use Rattle.px_frame.proofs.Built.{groups_step, groups_made, IsGroups-made}
 use Rattle.px_frame.proofs.Started.{started_rows}
 use Rattle.px_frame.proofs.grouping.group_rows.Goals as goal

@@ -12,8 +12,9 @@ use Rattle.px_frame.specs.GroupsView.{lent_group}
 use Rattle.px_tree.specs.Value.{faults_on}
 use Rattle.px_steps.specs.Plain.{grouped_kind, value_on_part}
 use Rattle.px_steps.proofs.Grouping.{group_rows, part_lacks}
-use Rattle.px_steps.proofs.Members.{In, all_push, in_here, sound_next, values_next}
+use Rattle.px_steps.proofs.Members.{In, in_here, sound_next, values_next}
 use Rattle.px_steps.proofs.aggregated.values_of_groups.Goals as goal
+use Rattle.px_value.proofs.FitLaws.{all_push}
 
 pub value_of_rows-requires-clause-below : goal.value_of_rows-requires-clause-below
 value_of_rows-requires-clause-below g c =

@@ -13,7 +13,7 @@ use Rattle.px_tree.specs.declared.context.Context.TheVariants.{Default}
 use Rattle.px_steps.specs.Plain.{named_value}
 use Rattle.px_steps.proofs.GroupStep.{key_finds, key_lacks}
 use Rattle.px_steps.proofs.Grouping.{no_first}
-use Rattle.px_tree.specs.KindLaws.{none_left as nil_left}
+use Rattle.px_tree.proofs.KindLaws.{none_left as nil_left}
 use Rattle.px_steps.proofs.group_step.key_column.Goals as goal
 
 pub returns-in_err-node-clause-answer : goal.returns-in_err-node-clause-answer

@@ -1,6 +1,6 @@
 use Rattle.px_value.specs.View.{slot_of}
 use Rattle.std.proofs.Common.{arith}
-use Rattle.px_value.specs.LengthLaws.{differ_len_map}
+use Rattle.px_value.proofs.LengthLaws.{differ_len_map}
 use Rattle.px_value.proofs.value_ref.+same.Goals as goal
 
 pub same_values-returns-then-len : goal.same_values-returns-then-len

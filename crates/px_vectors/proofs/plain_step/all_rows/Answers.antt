@@ -1,5 +1,5 @@
 use Rattle.std.proofs.Common.{◌++◌, ◌∷◌, [], ◌∙◌, ap, sym, List, ℕ}
-use Rattle.px_column.specs.KeyLaws.{range_push}
+use Rattle.px_column.proofs.KeyLaws.{range_push}
 use Rattle.px_vectors.proofs.plain_step.all_rows.Goals as goal
 
 pub loop-row-preserved : goal.loop-row-preserved

@@ -5,7 +5,7 @@ use Rattle.px_value.specs.View.{slot_of}
 use Rattle.px_frame.specs.Cell.{value_of_cell}
 use Rattle.px_frame.specs.Frame.{subframe}
 use Rattle.px_steps.specs.Direct.{kind_on, value_on, value_on_part}
-use Rattle.px_value.specs.FitLaws.{fit_next}
+use Rattle.px_value.proofs.FitLaws.{fit_next}
 use Rattle.px_vectors.specs.PlainStep.{tree_of}
 use Rattle.px_vectors.proofs.PlainValues.{kind_on_rows, part_next}
 use Rattle.px_vectors.proofs.Told.{told}

@@ -1,4 +1,4 @@
-use Rattle.px_value.specs.FitLaws.{fits_at}
+use Rattle.px_value.proofs.FitLaws.{fits_at}
 use Rattle.px_value.specs.View.{slots_of}
 use Rattle.px_column.proofs.column.Column.slot.Goals as goal
 

@@ -1,7 +1,7 @@
 use Rattle.std.proofs.Common.{◌∙◌, ap, Some, ℤ}
 use Rattle.px_value.specs.Datum.{integer}
 use Rattle.px_value.specs.KindView.{kind_of}
-use Rattle.px_operation.specs.OperatorLaws.{integer_kind}
+use Rattle.px_operation.proofs.OperatorLaws.{integer_kind}
 use Rattle.px_operation.proofs.Numbers.{product_is}
 use Rattle.px_operation.proofs.operators.number.calculated.Goals as goal
 

@@ -2,6 +2,7 @@
 use Rattle.std.proofs.Common.{◌≡◌, ℕ, zero, suc, Bool, true, false, ◌&&◌, List, [], ◌∷◌, ◌++◌, Option, refl, ◌∙◌, ap}
 use Rattle.std.specs.List.{list_all}
 use Rattle.std.proofs.lemmas.List.{map_push}
+use Rattle.std.proofs.lemmas.List.Folds.{list_all-append}
 use Rattle.px_value.specs.Datum.{Slot}
 use Rattle.px_value.specs.Kind.{Kind, slot_fits, slots_fit}
 use Rattle.px_value.specs.Series.{slot_at}
@@ -24,6 +25,10 @@ module _ {X : Type 0} where
   pub all_push : (test : X → Bool) (xs : List X) (x : X) → list_all test xs ≡ true → test x ≡ true → list_all test (xs ++ x ∷ []) ≡ true
   all_push test [] x h e = λ i. e i && true
   all_push test (y ∷ ys) x h e = let p = both (test y) (list_all test ys) h in λ i. p.0 i && all_push test ys x p.1 e i
+
+  -- a test that holds of the items of two lists
+  pub all_append : (test : X → Bool) (xs ys : List X) → list_all test xs ≡ true → list_all test ys ≡ true → list_all test (xs ++ ys) ≡ true
+  all_append test xs ys h k = list_all-append test xs ys ∙ (λ i. h i && k i)
 
 -- rows that fit, and one more that fits
 pub fit_next : (k : Kind) (rows new : List (Option Value)) (v : Option Value) → new ≡ rows ++ v ∷ [] → slots_fit k (slots_of rows) ≡ true → slot_fits k (slot_of v) ≡ true

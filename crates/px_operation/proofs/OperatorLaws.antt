@@ -7,7 +7,7 @@ use Rattle.std.specs.Int.{w128, int_bit_and, int_bit_or, int_bit_xor}
 use Rattle.std.specs.Ordering.{is_lt, is_le, is_gt, is_ge}
 use Rattle.px_value.specs.Equality.{datum_eq}
 use Rattle.px_value.specs.Order.{datum_cmp}
-use Rattle.px_operation.specs.WrapLaws.{fits_wrapped}
+use Rattle.px_operation.proofs.WrapLaws.{fits_wrapped}
 use Rattle.px_value.specs.declared.error.PxError.{PxError}
 use Rattle.px_value.specs.declared.error.PxError.TheVariants.{InvalidOperation}
 use Rattle.px_value.specs.declared.error.InvalidWhy.TheVariants.{ListKey, Types}

@@ -6,7 +6,7 @@ use Rattle.std.proofs.lemmas.Bool.Decides.{nat_tests}
 use Rattle.std.proofs.lemmas.Grind.{fold-append}
 use Rattle.std.proofs.lemmas.List.{length-map}
 use Rattle.px_column.specs.Key.{key_at, keys_of}
-use Rattle.px_column.specs.KeyLaws.{keys_push}
+use Rattle.px_column.proofs.KeyLaws.{keys_push}
 use Rattle.px_value.specs.Datum.{Slot}
 use Rattle.px_value.specs.Decided.{IsEquivalence-decides, row_decides}
 use Rattle.px_value.specs.Equality.{row_eq}

@@ -23,9 +23,10 @@ use Rattle.px_steps.specs.Direct as direct
 use Rattle.px_steps.specs.Plain as plain
 use Rattle.px_steps.specs.Plain.{first_of, key_values}
 use Rattle.px_tree.specs.Step.{PlainStep, group}
-use Rattle.px_value.specs.FitLaws.{both as all_and}
-use Rattle.px_frame.specs.LookLaws.{field_look as field-look, look_rows as look-at}
+use Rattle.px_value.proofs.FitLaws.{both as all_and}
+use Rattle.px_frame.proofs.LookLaws.{field_look as field-look, look_rows as look-at}
 use Rattle.std.proofs.lemmas.List.{append-nil as append_nil, map-append}
+use Rattle.px_value.proofs.EachLaws.{each_some}
 
 kind_of_field : (o : Option Series) → option_map (λ (f : FieldKind). f.kind) (option_map column_field o) ≡ option_map (λ (s : Series). s.kind) o
 kind_of_field None = refl
@@ -93,10 +94,6 @@ sum_refused n frame = by (look n frame) refl
     by : (o : Option Series) → look n frame ≡ o → plain.agg_refusals (alone frame) (agg Sum (column n)) ≡ direct.agg_refusals frame (agg Sum (column n))
     by None e = rw (kind_missing n frame e, e) refl
     by (Some s) e = typed s e (sum_kind s.kind) refl
-
-each_some : {A B : Type 0} (f : A → Option B) (g : A → B) (xs : List A) → ((x : A) → f x ≡ Some (g x)) → each f xs ≡ Some (map g xs)
-each_some f g [] h = refl
-each_some f g (x ∷ xs) h = rw (h x, each_some f g xs h) refl
 
 pub sum_same : (n : List ℕ) (frame : List Series) (parts : List (List ℕ)) → plain.aggregated_on (alone frame) parts (agg Sum (column n)) ≡ direct.aggregated_on frame parts (agg Sum (column n))
 sum_same n frame parts = by (look n frame) refl
