@@ -4,3 +4,6 @@ pub mod CastRows
 pub mod FunctionRows
 pub mod ReductionRows
 pub mod Numbers
+pub mod Written
+pub mod WrittenCasts
+pub mod ListCasts

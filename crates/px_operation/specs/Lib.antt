@@ -3,6 +3,7 @@ pub mod Sum
 pub mod Reduction
 pub mod Operator
 pub mod Cast
+pub mod Written
 pub mod Function
 pub mod WrapRows
 pub mod OperatorRows

@@ -1,12 +1,14 @@
 //! Operations on single values: the types that they take and give, and what they make of values.
 #![tactic(auto)]
 
+mod casts;
 mod operators;
 pub mod rows;
 mod sum;
 mod types;
 mod wrap;
 
+pub use casts::cast_value;
 pub use operators::operate;
 pub use sum::{number, wrapped_sum};
 pub use types::{

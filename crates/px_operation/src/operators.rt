@@ -18,6 +18,7 @@ use crate::types::is_boolean;
 use bits::bit_by_bit;
 use comparison::compared;
 use number::arithmetic;
+pub(crate) use number::number_in;
 use px_value::{DataType, Name, Operator, Px, Value, ValueRef};
 use std::alloc::Global;
 use truth::{both, either, exactly_one, truth_of};
