@@ -46,32 +46,17 @@ fn items_cast(alloc: Global, to: &DataType, options: CastOptions, values: &Value
     let mut items = Vec::with_capacity(alloc, values.len() as usize)?;
     let mut i = 0;
     while i < values.len() {
-        items.push(slot_cast(alloc, to, options, values.get(i))?)?;
+        items.push(cast_value(alloc, to, options, values.get(i))?)?;
         i += 1;
     }
     Ok(Values::from_vec(items))
-}
-
-/// A place in another type; a null stays a null.
-#[cycle(cast)]
-fn slot_cast(
-    alloc: Global,
-    to: &DataType,
-    options: CastOptions,
-    slot: Option<ValueRef<'_>>,
-) -> Px<Option<Value>>
-    ensures { AnswersBy slot_of result (cast_slot (kind_of to.now) (kind_of to.now) options (slot_of_ref slot.entry)) }
-{
-    match slot {
-        None => Ok(None),
-        Some(value) => datum_cast(alloc, to, options, value),
-    }
 }
 
 /// A value that may be missing in another type (polars `cast_with_options`, on single values). A null
 /// stays a null, and a list is cast element by element. A value that the type does not have is refused
 /// with `CastLost` under `Strict`, becomes a null under `NonStrict`, and wraps under `Overflowing`,
 /// where a text that is no number becomes a null. `Types` where a value is not cast to the type.
+#[cycle(cast)]
 pub fn cast_value(
     alloc: Global,
     to: &DataType,
@@ -80,5 +65,8 @@ pub fn cast_value(
 ) -> Px<Option<Value>>
     ensures { (from : Kind) → AnswersBy slot_of result (cast_slot from (kind_of to.now) options (slot_of_ref slot.entry)) }
 {
-    slot_cast(alloc, to, options, slot)
+    match slot {
+        None => Ok(None),
+        Some(value) => datum_cast(alloc, to, options, value),
+    }
 }

@@ -2,6 +2,7 @@
 #![tactic(auto)]
 
 mod casts;
+mod functions;
 mod operators;
 pub mod rows;
 mod sum;
@@ -9,6 +10,7 @@ mod types;
 mod wrap;
 
 pub use casts::cast_value;
+pub use functions::{is_between, is_not_null, is_null, not};
 pub use operators::operate;
 pub use sum::{number, wrapped_sum};
 pub use types::{

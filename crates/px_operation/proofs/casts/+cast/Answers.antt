@@ -16,22 +16,22 @@ items_cast-loop-i-init t c = record {
   same = rw c.in_ok-items.ensures.items (after_none _);
 }
 
-pub items_cast-slot_cast-requires : goal.items_cast-slot_cast-requires
-items_cast-slot_cast-requires t c = (omega (arith, weight_at c.args.values.now c.loop-i.i, ap slot_weight c.get.ensures, c.decreases), tt)
+pub items_cast-cast_value-requires : goal.items_cast-cast_value-requires
+items_cast-cast_value-requires t c = (omega (arith, weight_at c.args.values.now c.loop-i.i, ap slot_weight c.get.ensures, c.decreases), tt)
 
-pub items_cast-returns-in_err-slot_cast : goal.items_cast-returns-in_err-slot_cast
-items_cast-returns-in_err-slot_cast t c =
+pub items_cast-returns-in_err-cast_value : goal.items_cast-returns-in_err-cast_value
+items_cast-returns-in_err-cast_value t c =
     let done = slots_of c.loop-i.items.items in
     let row = cast_row (kind_of c.args.to.now) c.args.options done c.args.values.now c.loop-i.i _ (omega arith) c.get.ensures in
-    let p = err_from_is_err_and c.from_residual-in_err-slot_cast.result c.from_residual-in_err-slot_cast.ensures.1 in
-    rw (p.1, p.2, c.loop-i.invariant.same ∙ row) (refused_row c.in_err-slot_cast.field-0.0 done _ _ c.in_err-slot_cast.ensures)
+    let p = err_from_is_err_and c.from_residual-in_err-cast_value.result c.from_residual-in_err-cast_value.ensures.1 in
+    rw (p.1, p.2, c.loop-i.invariant.same ∙ row) (refused_row c.in_err-cast_value.field-0.0 done _ _ (c.in_err-cast_value.ensures (kind_of c.args.to.now)))
 
 pub items_cast-loop-i-preserved : goal.items_cast-loop-i-preserved
 items_cast-loop-i-preserved t c =
     let to = kind_of c.args.to.now in
     let xs = c.args.values.now in
     let rest = items_cast to c.args.options (slots (drop (c.loop-i.i + 1) xs)) in
-    let v = c.in_ok-slot_cast.field-0 in
+    let v = c.in_ok-cast_value.field-0 in
     let done = slots_of c.loop-i.items.items in
     let pushed : slots_of c.push.new.self.items ≡ done ++ slot_of v ∷ [] = ap slots_of c.in_ok-push.ensures.items ∙ map_push slot_of c.loop-i.items.items v in
     record {
@@ -39,7 +39,7 @@ items_cast-loop-i-preserved t c =
       count = omega (arith, c.in_ok-push.ensures.len);
       same =
           c.loop-i.invariant.same ∙ cast_row to c.args.options done xs c.loop-i.i _ (omega arith) c.get.ensures
-          ∙ ap (λ (s : Result Slot PxError). after done (before s rest)) c.in_ok-slot_cast.ensures
+          ∙ ap (λ (s : Result Slot PxError). after done (before s rest)) (c.in_ok-cast_value.ensures to)
           ∙ after_one done (slot_of v) rest
           ∙ ap (λ (ys : List Slot). after ys rest) (sym pushed);
     }

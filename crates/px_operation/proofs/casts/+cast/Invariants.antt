@@ -13,8 +13,8 @@ decreases-datum_cast l = 3 * weight (datum_of_ref l.value)
 abbrev pub decreases-items_cast : goal.decreases-items_cast
 decreases-items_cast l = 3 * list_weight l.values.now + 2
 
-abbrev pub decreases-slot_cast : goal.decreases-slot_cast
-decreases-slot_cast l = 3 * slot_weight (slot_of_ref l.slot) + 1
+abbrev pub decreases-cast_value : goal.decreases-cast_value
+decreases-cast_value l = 3 * slot_weight (slot_of_ref l.slot) + 1
 
 abbrev pub invariant-items_cast-loop-i : goal.invariant-items_cast-loop-i
 invariant-items_cast-loop-i l = record {
