@@ -7,3 +7,6 @@ pub mod Numbers
 pub mod Written
 pub mod WrittenCasts
 pub mod ListCasts
+pub mod Extremes
+pub mod Sums
+pub mod LastRow

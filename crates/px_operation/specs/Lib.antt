@@ -1,5 +1,6 @@
 pub mod Wrap
 pub mod Sum
+pub mod Reduce
 pub mod Reduction
 pub mod Operator
 pub mod Cast
@@ -13,3 +14,5 @@ pub mod ReductionRows
 pub mod WrapLaws
 pub mod Operate
 pub mod OperatorLaws
+pub mod SumLaws
+pub mod DatumOrder

@@ -4,6 +4,7 @@
 mod casts;
 mod functions;
 mod operators;
+mod reductions;
 pub mod rows;
 mod sum;
 mod types;
@@ -12,6 +13,9 @@ mod wrap;
 pub use casts::cast_value;
 pub use functions::{is_between, is_not_null, is_null, not};
 pub use operators::operate;
+pub use reductions::{
+    CountReduce, FirstReduce, ImplodeReduce, LastReduce, MaxReduce, MinReduce, Reduce, SumReduce,
+};
 pub use sum::{number, wrapped_sum};
 pub use types::{
     cast_type, is_boolean, is_cast, is_integer, operator_type, reduced_type, same_type, sum_type,
