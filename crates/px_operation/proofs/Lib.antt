@@ -10,3 +10,4 @@ pub mod ListCasts
 pub mod Extremes
 pub mod Sums
 pub mod LastRow
+pub mod RowByRow

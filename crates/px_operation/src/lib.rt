@@ -15,6 +15,7 @@ pub use functions::{is_between, is_not_null, is_null, not};
 pub use operators::operate;
 pub use reductions::{
     CountReduce, FirstReduce, ImplodeReduce, LastReduce, MaxReduce, MinReduce, Reduce, SumReduce,
+    reduce_parts, reduce_rows, state_of,
 };
 pub use sum::{number, wrapped_sum};
 pub use types::{

@@ -14,6 +14,7 @@ mod count;
 mod ends;
 mod extreme;
 mod implode;
+mod rows;
 mod sum;
 
 pub use count::CountReduce;
@@ -21,6 +22,7 @@ pub use ends::{FirstReduce, LastReduce};
 pub use extreme::{MaxReduce, MinReduce};
 pub use implode::ImplodeReduce;
 use px_value::{DataType, Px, Value, ValueRef};
+pub use rows::{reduce_parts, reduce_rows, state_of};
 use std::alloc::Global;
 pub use sum::SumReduce;
 
