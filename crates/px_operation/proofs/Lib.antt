@@ -6,7 +6,6 @@ pub mod ReductionRows
 pub mod Numbers
 pub mod Written
 pub mod WrittenCasts
-pub mod ListCasts
 pub mod Extremes
 pub mod Sums
 pub mod LastRow

@@ -16,3 +16,4 @@ pub mod Operate
 pub mod OperatorLaws
 pub mod SumLaws
 pub mod DatumOrder
+pub mod CastLaws

@@ -33,9 +33,8 @@ impl Reduce for FirstReduce {
     }
 
     fn merge(&mut self, later: FirstReduce) -> Px<()> {
-        if self.first.is_none() {
-            self.first = later.first;
-        }
+        let earlier = self.first.take();
+        self.first = earlier.or(later.first);
         Ok(())
     }
 

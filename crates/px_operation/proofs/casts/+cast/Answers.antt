@@ -6,7 +6,7 @@ use Rattle.px_value.specs.declared.error.PxError.{PxError}
 use Rattle.px_value.specs.KindView.{kind_of}
 use Rattle.px_value.specs.View.{slot_of, slots_of}
 use Rattle.px_operation.specs.Cast.{before, items_cast}
-use Rattle.px_operation.proofs.ListCasts.{after, after_none, after_one, cast_row, refused_row, weight_at}
+use Rattle.px_operation.specs.CastLaws.{after, after_none, after_one, cast_row, refused_row, weight_at}
 use Rattle.px_operation.proofs.casts.+cast.Goals as goal
 
 pub items_cast-loop-i-init : goal.items_cast-loop-i-init

@@ -4,7 +4,7 @@ use Rattle.px_value.specs.KindView.{kind_of}
 use Rattle.px_value.specs.LentView.{datum_of_ref, slot_of_ref}
 use Rattle.px_value.specs.View.{slots_of}
 use Rattle.px_operation.specs.Cast.{items_cast}
-use Rattle.px_operation.proofs.ListCasts.{after}
+use Rattle.px_operation.specs.CastLaws.{after}
 use Rattle.px_operation.proofs.casts.+cast.Given as goal
 
 abbrev pub decreases-datum_cast : goal.decreases-datum_cast
