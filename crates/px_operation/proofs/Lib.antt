@@ -6,3 +6,12 @@ pub mod ReductionRows
 pub mod Numbers
 pub mod OperatorLaws
 pub mod WrapLaws
+pub mod SumLaws
+pub mod CastLaws
+pub mod DatumOrder
+pub mod Written
+pub mod WrittenCasts
+pub mod Extremes
+pub mod Sums
+pub mod LastRow
+pub mod RowByRow
