@@ -1,5 +1,7 @@
 pub mod Fitting
 pub mod Taking
+pub mod Building
+pub mod Beside
 pub mod Summing
 pub mod Extremes
 pub mod Distinct
