@@ -11,3 +11,5 @@ pub mod Rising
 pub mod Inserting
 pub mod RowOrder
 pub mod Operating
+pub mod Keeping
+pub mod Placing

@@ -4,3 +4,5 @@ pub mod Column
 pub mod Repeat
 pub mod Beside
 pub mod Operated
+pub mod Rows
+pub mod Window

@@ -80,6 +80,19 @@ impl ColumnBuilder {
         self.push(copy_slot(self.alloc, slot)?)
     }
 
+    /// All rows of a column more, copied, under the conditions of `push`.
+    pub(crate) fn push_rows(&mut self, column: &Column) -> Px<()>
+        requires kind { column.now.kind ≡ self.old.kind }
+        requires room { length self.old.slots + length column.now.slots < 2 ^ 32 }
+        ensures answer { Answers result (Ok tt) }
+        ensures ok { OnOk result (self.new ≡ record self.old { slots = self.old.slots ++ column.now.slots }) }
+    {
+        for row in column.rows() {
+            self.push_ref(row)?;
+        }
+        Ok(())
+    }
+
     /// The column of the rows.
     pub fn finish(self) -> Px<Column>
         ensures { Answers result (Ok self) }
