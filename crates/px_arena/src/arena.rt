@@ -1,6 +1,6 @@
 //! Expressions whose nodes stand in a list, each behind its children.
 ghost use Rattle.std.specs.Prelude.{◌≡◌, ◌+◌, ◌-◌, ◌^◌, ◌<◌, ◌++◌, ◌∷◌, [], true, length, Ok, OnOk, OnErr};
-ghost use Rattle.px_value.specs.Answer.{Answers, AnswersBy};
+ghost use Rattle.px_column.specs.Prelude.{Answers, AnswersBy};
 
 use crate::node::{AExpr, Node};
 use px_column::Px;

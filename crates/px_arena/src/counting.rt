@@ -64,7 +64,7 @@ fn room_left(expr: &Expr, room: u32) -> Option<u32>
             let room = room_left(expr, room)?;
             room_behind_all(by, room)
         }
-        Expr::Agg(agg) => room_behind_reduced(agg, room),
+        Expr::Agg(agg) => room_behind_reduction(agg, room),
         Expr::Len => Some(room),
         Expr::Window {
             function,
@@ -104,7 +104,7 @@ fn room_behind_order(order_by: &Option<(Rc<Expr>, SortOptions)>, room: u32) -> O
 
 // The room behind what is reduced: the reduction's own node is counted already.
 #[cycle(counting)]
-fn room_behind_reduced(agg: &AggExpr, room: u32) -> Option<u32>
+fn room_behind_reduction(agg: &AggExpr, room: u32) -> Option<u32>
     ensures left { IfSome result (λ left. left + nodes_of (agg_tree agg.now) ≡ room + 1) }
     ensures full { IsNone result → room + 1 < nodes_of (agg_tree agg.now) }
 {

@@ -1,6 +1,6 @@
 //! The columns that a node of an arena reads.
 ghost use Rattle.std.specs.Prelude.{◌≡◌, ◌<◌, ◌≤◌, ◌++◌, Ok, OnOk, length, true};
-ghost use Rattle.px_value.specs.Answer.{Answers, AnswersBy};
+ghost use Rattle.px_column.specs.Prelude.{Answers, AnswersBy};
 ghost use Rattle.px_arena.specs.Arena.{tree_at, trees_at, order_at, all_below, order_below};
 ghost use Rattle.px_tree.specs.Nodes.{leaf_names, all_leaf_names, order_leaf_names};
 

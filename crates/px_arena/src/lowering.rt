@@ -1,6 +1,6 @@
 //! From expressions to arenas.
 ghost use Rattle.std.specs.Prelude.{◌≡◌, ◌+◌, ◌^◌, ◌<◌, ◌++◌, Ok, IfOk, OnOk, OnErr, length, true};
-ghost use Rattle.px_value.specs.Answer.{Answers, AnswersBy};
+ghost use Rattle.px_column.specs.Prelude.{Answers, AnswersBy};
 ghost use Rattle.px_arena.specs.Adding.{AddsFront};
 ghost use Rattle.px_arena.specs.Arena.{tree_at, trees_at, order_at, agg_at, node_tree, children_below, is_below, all_below, order_below, agg_input};
 ghost use Rattle.px_tree.specs.Nodes.{nodes_of, all_nodes_of, order_nodes_of, postorder, all_postorder, order_postorder, children_postorder};

@@ -1,6 +1,6 @@
 //! From arenas to expressions.
 ghost use Rattle.std.specs.Prelude.{◌≡◌, ◌<◌, ◌≤◌, Ok, length, true};
-ghost use Rattle.px_value.specs.Answer.{AnswersBy};
+ghost use Rattle.px_column.specs.Prelude.{AnswersBy};
 ghost use Rattle.px_arena.specs.Arena.{tree_at, trees_at, order_at, agg_at, all_below, order_below, agg_input, is_below};
 ghost use Rattle.px_tree.specs.View.{tree, trees, agg_tree, order_tree};
 
@@ -22,12 +22,12 @@ pub fn node_to_expr(alloc: Global, node: Node, arena: &Arena) -> Px<Expr>
         AExpr::Column(name) => Ok(Expr::Column(name.try_clone(alloc)?)),
         AExpr::Literal(value) => Ok(Expr::Literal(value.try_clone(alloc)?)),
         AExpr::Alias(expr, name) => {
-            let expr = shared(alloc, *expr, arena)?;
+            let expr = share_expr(alloc, *expr, arena)?;
             Ok(Expr::Alias(expr, name.try_clone(alloc)?))
         }
         AExpr::BinaryExpr { left, op, right } => {
-            let left = shared(alloc, *left, arena)?;
-            let right = shared(alloc, *right, arena)?;
+            let left = share_expr(alloc, *left, arena)?;
+            let right = share_expr(alloc, *right, arena)?;
             Ok(Expr::BinaryExpr {
                 left,
                 op: *op,
@@ -39,9 +39,9 @@ pub fn node_to_expr(alloc: Global, node: Node, arena: &Arena) -> Px<Expr>
             truthy,
             falsy,
         } => {
-            let predicate = shared(alloc, *predicate, arena)?;
-            let truthy = shared(alloc, *truthy, arena)?;
-            let falsy = shared(alloc, *falsy, arena)?;
+            let predicate = share_expr(alloc, *predicate, arena)?;
+            let truthy = share_expr(alloc, *truthy, arena)?;
+            let falsy = share_expr(alloc, *falsy, arena)?;
             Ok(Expr::Ternary {
                 predicate,
                 truthy,
@@ -53,7 +53,7 @@ pub fn node_to_expr(alloc: Global, node: Node, arena: &Arena) -> Px<Expr>
             dtype,
             options,
         } => {
-            let expr = shared(alloc, *expr, arena)?;
+            let expr = share_expr(alloc, *expr, arena)?;
             let dtype = dtype.try_clone(alloc)?;
             Ok(Expr::Cast {
                 expr,
@@ -68,10 +68,10 @@ pub fn node_to_expr(alloc: Global, node: Node, arena: &Arena) -> Px<Expr>
                 function: *function,
             })
         }
-        AExpr::Explode(expr) => Ok(Expr::Explode(shared(alloc, *expr, arena)?)),
+        AExpr::Explode(expr) => Ok(Expr::Explode(share_expr(alloc, *expr, arena)?)),
         AExpr::Filter { input, by } => {
-            let input = shared(alloc, *input, arena)?;
-            let by = shared(alloc, *by, arena)?;
+            let input = share_expr(alloc, *input, arena)?;
+            let by = share_expr(alloc, *by, arena)?;
             Ok(Expr::Filter { input, by })
         }
         AExpr::Slice {
@@ -79,9 +79,9 @@ pub fn node_to_expr(alloc: Global, node: Node, arena: &Arena) -> Px<Expr>
             offset,
             length,
         } => {
-            let input = shared(alloc, *input, arena)?;
-            let offset = shared(alloc, *offset, arena)?;
-            let length = shared(alloc, *length, arena)?;
+            let input = share_expr(alloc, *input, arena)?;
+            let offset = share_expr(alloc, *offset, arena)?;
+            let length = share_expr(alloc, *length, arena)?;
             Ok(Expr::Slice {
                 input,
                 offset,
@@ -93,8 +93,8 @@ pub fn node_to_expr(alloc: Global, node: Node, arena: &Arena) -> Px<Expr>
             idx,
             returns_scalar,
         } => {
-            let expr = shared(alloc, *expr, arena)?;
-            let idx = shared(alloc, *idx, arena)?;
+            let expr = share_expr(alloc, *expr, arena)?;
+            let idx = share_expr(alloc, *idx, arena)?;
             Ok(Expr::Gather {
                 expr,
                 idx,
@@ -102,7 +102,7 @@ pub fn node_to_expr(alloc: Global, node: Node, arena: &Arena) -> Px<Expr>
             })
         }
         AExpr::Sort { expr, options } => {
-            let expr = shared(alloc, *expr, arena)?;
+            let expr = share_expr(alloc, *expr, arena)?;
             Ok(Expr::Sort {
                 expr,
                 options: *options,
@@ -113,7 +113,7 @@ pub fn node_to_expr(alloc: Global, node: Node, arena: &Arena) -> Px<Expr>
             by,
             sort_options,
         } => {
-            let expr = shared(alloc, *expr, arena)?;
+            let expr = share_expr(alloc, *expr, arena)?;
             let by = nodes_to_exprs(alloc, by, node.0, arena)?;
             let sort_options = sort_options.try_clone(alloc)?;
             Ok(Expr::SortBy {
@@ -130,7 +130,7 @@ pub fn node_to_expr(alloc: Global, node: Node, arena: &Arena) -> Px<Expr>
             order_by,
             options,
         } => {
-            let function = shared(alloc, *function, arena)?;
+            let function = share_expr(alloc, *function, arena)?;
             let partition_by = nodes_to_exprs(alloc, partition_by, node.0, arena)?;
             let order_by = order_to_expr(alloc, *order_by, node.0, arena)?;
             Ok(Expr::Window {
@@ -144,7 +144,7 @@ pub fn node_to_expr(alloc: Global, node: Node, arena: &Arena) -> Px<Expr>
 }
 
 #[cycle(node_to_expr)]
-fn shared(alloc: Global, node: Node, arena: &Arena) -> Px<Rc<Expr>>
+fn share_expr(alloc: Global, node: Node, arena: &Arena) -> Px<Rc<Expr>>
     requires { node.0 < length arena.now }
     ensures { AnswersBy (λ b. tree b.value) result (Ok (tree_at arena.now node)) }
 {
@@ -181,7 +181,7 @@ fn order_to_expr(
 {
     match order_by {
         None => Ok(None),
-        Some((by, options)) => Ok(Some((shared(alloc, by, arena)?, options))),
+        Some((by, options)) => Ok(Some((share_expr(alloc, by, arena)?, options))),
     }
 }
 
@@ -192,13 +192,13 @@ fn agg_to_expr(alloc: Global, agg: IRAggExpr, before: u32, arena: &Arena) -> Px<
     ensures { AnswersBy agg_tree result (Ok (agg_at arena.now agg)) }
 {
     match agg {
-        IRAggExpr::Min(expr) => Ok(AggExpr::Min(shared(alloc, expr, arena)?)),
-        IRAggExpr::Max(expr) => Ok(AggExpr::Max(shared(alloc, expr, arena)?)),
-        IRAggExpr::Sum(expr) => Ok(AggExpr::Sum(shared(alloc, expr, arena)?)),
-        IRAggExpr::First(expr) => Ok(AggExpr::First(shared(alloc, expr, arena)?)),
-        IRAggExpr::Last(expr) => Ok(AggExpr::Last(shared(alloc, expr, arena)?)),
-        IRAggExpr::NUnique(expr) => Ok(AggExpr::NUnique(shared(alloc, expr, arena)?)),
-        IRAggExpr::Implode(expr) => Ok(AggExpr::Implode(shared(alloc, expr, arena)?)),
-        IRAggExpr::Count(expr, nulls) => Ok(AggExpr::Count(shared(alloc, expr, arena)?, nulls)),
+        IRAggExpr::Min(expr) => Ok(AggExpr::Min(share_expr(alloc, expr, arena)?)),
+        IRAggExpr::Max(expr) => Ok(AggExpr::Max(share_expr(alloc, expr, arena)?)),
+        IRAggExpr::Sum(expr) => Ok(AggExpr::Sum(share_expr(alloc, expr, arena)?)),
+        IRAggExpr::First(expr) => Ok(AggExpr::First(share_expr(alloc, expr, arena)?)),
+        IRAggExpr::Last(expr) => Ok(AggExpr::Last(share_expr(alloc, expr, arena)?)),
+        IRAggExpr::NUnique(expr) => Ok(AggExpr::NUnique(share_expr(alloc, expr, arena)?)),
+        IRAggExpr::Implode(expr) => Ok(AggExpr::Implode(share_expr(alloc, expr, arena)?)),
+        IRAggExpr::Count(expr, nulls) => Ok(AggExpr::Count(share_expr(alloc, expr, arena)?, nulls)),
     }
 }

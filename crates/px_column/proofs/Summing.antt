@@ -6,7 +6,7 @@ use Rattle.px_value.specs.Datum.{boolean, integer, text, bytes, list, Slot}
 use Rattle.px_value.specs.Kind.{Kind, booleans, int8s, int16s, int32s, int64s, uint8s, uint16s, uint32s, uint64s, strings, binaries, nulls, lists, slot_fits, is_signed, is_unsigned}
 use Rattle.px_column.proofs.Taking.{take_row}
 use Rattle.px_value.specs.Series.{slot_at}
-use Rattle.px_operation.specs.Sum.{number_of, total, IsWithin}
+use Rattle.px_operation.specs.Sum.{addend, total, IsWithin}
 use Rattle.std.proofs.lemmas.List.{map_push}
 use Rattle.std.proofs.lemmas.Grind.{fold-append}
 
@@ -24,7 +24,7 @@ none_within = record { low = omega (arith, ints); high = omega (arith, ints) }
 one_within : IsWithin 1 (pos 1)
 one_within = record { low = omega (arith, ints); high = omega (arith, ints) }
 
-pub number_within : (k : Kind) (s : Slot) → slot_fits k s ≡ true → IsWithin 1 (number_of s)
+pub number_within : (k : Kind) (s : Slot) → slot_fits k s ≡ true → IsWithin 1 (addend s)
 number_within k None h = none_within
 number_within k (Some (boolean true)) h = one_within
 number_within k (Some (boolean b)) h = none_within
@@ -45,9 +45,9 @@ number_within binaries (Some (integer z)) h = cc
 number_within nulls (Some (integer z)) h = cc
 number_within (lists k) (Some (integer z)) h = cc
 
-total_push : (xs : List Slot) (s : Slot) → total (xs ++ s ∷ []) ≡ total xs +ℤ number_of s
-total_push xs s = ap (fold ◌+ℤ◌ (pos 0)) (map_push number_of xs s) ∙ fold-append ◌+ℤ◌ (pos 0) (map number_of xs) (number_of s ∷ [])
+total_push : (xs : List Slot) (s : Slot) → total (xs ++ s ∷ []) ≡ total xs +ℤ addend s
+total_push xs s = ap (fold ◌+ℤ◌ (pos 0)) (map_push addend xs s) ∙ fold-append ◌+ℤ◌ (pos 0) (map addend xs) (addend s ∷ [])
 
 -- the sum of one more row
-pub total_more : (xs : List Slot) (i : ℕ) → i < length xs → total (take (i + 1) xs) ≡ total (take i xs) +ℤ number_of (slot_at xs i)
+pub total_more : (xs : List Slot) (i : ℕ) → i < length xs → total (take (i + 1) xs) ≡ total (take i xs) +ℤ addend (slot_at xs i)
 total_more xs i h = ap total (take_row xs i h) ∙ total_push (take i xs) (slot_at xs i)

@@ -12,13 +12,13 @@ use Rattle.std.proofs.lemmas.Map.Text.{is_eq-slice_cmp}
 use Rattle.std.proofs.lemmas.Slice.Eq.{bytes_eq-Decides}
 use Rattle.serde_json.specs.Data.{Data, null, boolean, number, string, array, object, Members, no_members, member}
 use Rattle.serde_json.specs.Find.{as_null, as_bool, as_str, get}
-use Rattle.px_value.specs.Option.{◌>>=◌, each}
+use Rattle.px_column.specs.Option.{◌>>=◌, each}
 use Rattle.px_tree.specs.Tree.{Tree, by_name, as_explode, Literal, column, literal, alias, binary, ternary, cast, function, filter, slice, gather, sort, sort_by, agg, len, window, series, one_tree, no_trees, trees_of}
 use Rattle.px_value.specs.declared.method.GroupByMethod.{GroupByMethod}
 use Rattle.px_value.specs.declared.method.GroupByMethod.TheVariants.{Min, Max, Sum, First, Last, NUnique, Count, Implode}
 use Rattle.px_tree.specs.declared.function.FunctionExpr.TheVariants.{IsBetween, IsIn, Shift}
 use Rattle.px_document.specs.Document.{kind_named, column_of}
-use Rattle.px_document.specs.ExprForm.{expr_within, expr_form, reduction_named, operator_named, function_named, closed_named, int64_of, options_of, literal_parts, range_parts, alias_parts, binary_parts, ternary_parts, cast_parts, function_parts, cast_named, flags_of, mapping_named, is_text, filter_parts, slice_parts, gather_parts, sort_parts, sort_by_parts, reduction_parts, window_parts, order_of}
+use Rattle.px_document.specs.ExprForm.{expr_within, expr_form, reduction_named, operator_named, function_named, closed_named, int64_of, options_of, literal_parts, range_parts, alias_parts, binary_parts, ternary_parts, cast_parts, function_parts, cast_named, flags_of, mapping_named, is_text, filter_parts, slice_parts, gather_parts, sort_parts, sort_by_parts, reduction_parts, over_parts, order_of}
 use Rattle.px_document.specs.Form.{field, fields, items, only_member, single_member, member_count, only, ReadsBy}
 use Rattle.px_tree.specs.View.{tree}
 use Rattle.px_tree.specs.declared.expr.Expr.{Expr}
@@ -154,7 +154,7 @@ module _ (E : Data → Option Tree) where
   sort_by_none (e ∷ b ∷ o ∷ []) = after (E e) _ (λ x. after (items b >>= each E) _ (λ y. after (flags_of o) _ (λ z. other (sort_by x (trees_of y) z) refl)))
   sort_by_none (a ∷ b ∷ c ∷ d ∷ ds) = nothing
 
-  window_none : (ds : List Data) → Untaken (window_parts E ds)
+  window_none : (ds : List Data) → Untaken (over_parts E ds)
   window_none [] = nothing
   window_none (a ∷ []) = nothing
   window_none (a ∷ b ∷ []) = nothing
@@ -184,7 +184,7 @@ module _ (E : Data → Option Tree) where
       (none_of_two (after (field (codes "sort_by") d >>= items) (sort_by_parts E) sort_by_none)
       (none_of_two (none_of is_built_tree (λ o. o >>= items >>= reduction_parts E) _ agg' refl)
       (none_of_two (none_of is_built_tree (λ o. option_map (λ _. len) (o >>= as_null)) _ len' refl)
-      (after (field (codes "over") d >>= fields (codes "function" ∷ codes "keys" ∷ codes "order" ∷ codes "mapping" ∷ [])) (window_parts E) window_none)))))))))))))))))
+      (after (field (codes "over") d >>= fields (codes "function" ∷ codes "keys" ∷ codes "order" ∷ codes "mapping" ∷ [])) (over_parts E) window_none)))))))))))))))))
 
   or_none : (o : Option Tree) → option_or o None ≡ o
   or_none None = refl

@@ -3,10 +3,9 @@ use Rattle.std.proofs.Common.{map, ◌≡◌, ◌≢◌, ◌≤◌, ◌-◌, ℕ
 use Rattle.std.specs.Option.{option_or, option_and_then, is_some}
 use Rattle.serde_json.specs.Data.{Data}
 use Rattle.serde_json.specs.Find.{as_null}
-use Rattle.px_value.specs.Datum.{Datum}
-use Rattle.px_value.specs.Kind.{Kind, booleans, int8s, int16s, int32s, int64s, uint8s, uint16s, uint32s, uint64s, strings, binaries, nulls, lists}
-use Rattle.px_document.specs.Document.{bytes_of_hex, hex_byte, in_list, kind_within, list_of, place_of, simple_kind, unless_null}
-use Rattle.px_value.specs.Option.{◌>>=◌, each}
+use Rattle.px_column.specs.Prelude.{Datum, Kind, booleans, int8s, int16s, int32s, int64s, uint8s, uint16s, uint32s, uint64s, strings, binaries, nulls, lists}
+use Rattle.px_document.specs.Document.{bytes_of_hex, hex_byte, in_list, kind_within, short_list, place_of, simple_kind, unless_null}
+use Rattle.px_column.specs.Option.{◌>>=◌, each}
 use Rattle.px_document.specs.Form.{Misses, items, with_front}
 use Rattle.px_document.specs.declared.document.fault.DocumentFault.{DocumentFault}
 use Rattle.px_document.specs.declared.document.fault.DocumentFault.TheVariants.{BadDocument, OutOfMemory}
@@ -65,10 +64,10 @@ place_of_null nulls d h = null_place d None h
 place_of_null (lists k) d h = null_place d _ h
 
 -- a list that was read is the place
-pub list_taken : (k : Kind) (d : Data) (x : Datum) → is_some (as_null d) ≡ false → option_and_then list_of (option_and_then (each (place_of k)) (items d)) ≡ Some x → place_of (lists k) d ≡ Some (Some x)
+pub list_taken : (k : Kind) (d : Data) (x : Datum) → is_some (as_null d) ≡ false → option_and_then short_list (option_and_then (each (place_of k)) (items d)) ≡ Some x → place_of (lists k) d ≡ Some (Some x)
 list_taken k d x h m = rw (h, m) refl
 
 -- where there is no list, there is no place
-pub list_missed : (k : Kind) (d : Data) (e : DocumentFault) → is_some (as_null d) ≡ false → Misses e (option_and_then list_of (option_and_then (each (place_of k)) (items d))) → Misses e (place_of (lists k) d)
+pub list_missed : (k : Kind) (d : Data) (e : DocumentFault) → is_some (as_null d) ≡ false → Misses e (option_and_then short_list (option_and_then (each (place_of k)) (items d))) → Misses e (place_of (lists k) d)
 list_missed k d BadDocument h m = rw (h, m) refl
 list_missed k d OutOfMemory h m = tt

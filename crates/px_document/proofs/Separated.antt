@@ -2,8 +2,8 @@
 use Rattle.std.proofs.Common.{◌≡◌, ℕ, zero, suc, ◌+◌, ◌<◌, ◌≤◌, List, [], ◌∷◌, ◌++◌, length, drop, None, Some, refl, ap, arith}
 use Rattle.std.proofs.lemmas.Grind.{common_steps}
 use Rattle.std.specs.List.{join_with_byte}
-use Rattle.px_value.specs.Datum.{Slot, slots, slot_weight, list_weight}
-use Rattle.px_value.specs.Series.{slot_at}
+use Rattle.px_column.specs.Prelude.{Slot, slots, slot_at}
+use Rattle.px_column.specs.Datum.{slot_weight, list_weight}
 use Rattle.px_document.specs.Text.{comma_before, item_texts, slot_text}
 
 -- the pieces from the index on, each after a comma unless it is the first

@@ -8,8 +8,8 @@ use Rattle.std.proofs.lemmas.Bool.Decides.{nat_tests}
 use Rattle.std.proofs.lemmas.Slice.Eq.{bytes_eq-Decides}
 use Rattle.serde_json.specs.Data.{Data}
 use Rattle.serde_json.specs.Find.{as_null}
-use Rattle.px_value.specs.Option.{◌>>=◌, each}
-use Rattle.px_value.specs.Series.{Series}
+use Rattle.px_column.specs.Option.{◌>>=◌, each}
+use Rattle.px_column.specs.Prelude.{Series}
 use Rattle.px_tree.specs.Tree.{Tree}
 use Rattle.px_document.specs.Document.{Doc, column_of}
 use Rattle.px_document.specs.ExprForm.{expr_of}

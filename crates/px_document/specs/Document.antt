@@ -4,10 +4,8 @@ use Rattle.std.specs.Option.{option_or}
 use Rattle.std.specs.Str.{bytes_eq}
 use Rattle.serde_json.specs.Data.{Data}
 use Rattle.serde_json.specs.Find.{as_null, as_bool, as_number, as_str, as_integer}
-use Rattle.px_value.specs.Datum.{Datum, boolean, integer, text, bytes, list, Slot, slots}
-use Rattle.px_value.specs.Kind.{Kind, booleans, int8s, int16s, int32s, int64s, uint8s, uint16s, uint32s, uint64s, strings, binaries, nulls, lists, slots_fit}
-use Rattle.px_value.specs.Series.{Series}
-use Rattle.px_value.specs.Option.{◌>>=◌, each}
+use Rattle.px_column.specs.Prelude.{Datum, boolean, integer, text, bytes, list, Slot, slots, Kind, booleans, int8s, int16s, int32s, int64s, uint8s, uint16s, uint32s, uint64s, strings, binaries, nulls, lists, slots_fit, Series}
+use Rattle.px_column.specs.Option.{◌>>=◌, each}
 use Rattle.px_document.specs.Form.{items, fields}
 use Rattle.px_tree.specs.Step.{PlainStep, step_view}
 use Rattle.px_document.specs.declared.document.parsed.Parsed.{Parsed}
@@ -68,8 +66,8 @@ bytes_of_hex (a ∷ []) = None
 bytes_of_hex (a ∷ b ∷ s) = hex_byte a b >>= λ x. option_map (λ xs. x ∷ xs) (bytes_of_hex s)
 
 -- the list of these places, where there are fewer than 2^32 of them
-abbrev pub list_of : List Slot → Option Datum
-list_of xs = if nat_lt (length xs) (2 ^ 32) then Some (list (slots xs)) else None
+abbrev pub short_list : List Slot → Option Datum
+short_list xs = if nat_lt (length xs) (2 ^ 32) then Some (list (slots xs)) else None
 
 -- a null, or the value that there is
 abbrev pub unless_null : Data → Option Datum → Option Slot
@@ -81,7 +79,7 @@ place_of booleans d = unless_null d (option_map boolean (as_bool d))
 place_of strings d = unless_null d (option_map text (as_str d))
 place_of binaries d = unless_null d (option_map bytes (as_str d >>= bytes_of_hex))
 place_of nulls d = unless_null d None
-place_of (lists k) d = unless_null d (items d >>= each (λ e. place_of k e) >>= list_of)
+place_of (lists k) d = unless_null d (items d >>= each (λ e. place_of k e) >>= short_list)
 place_of _ d = unless_null d (option_map integer (as_number d >>= as_integer))
 
 -- a column of these places, where each fits the type and there are fewer than 2^32 of them

@@ -4,9 +4,8 @@ use Rattle.std.specs.Option.{option_or}
 use Rattle.std.specs.Str.{bytes_eq}
 use Rattle.serde_json.specs.Data.{Data}
 use Rattle.serde_json.specs.Find.{as_null, as_bool, as_number, as_str, as_i64}
-use Rattle.px_value.specs.Datum.{Slot}
-use Rattle.px_value.specs.Kind.{Kind, nulls, fits, is_list_kind}
-use Rattle.px_value.specs.Option.{◌>>=◌, each}
+use Rattle.px_column.specs.Prelude.{Slot, Kind, nulls, fits, is_list_kind}
+use Rattle.px_column.specs.Option.{◌>>=◌, each}
 use Rattle.px_value.specs.declared.cast_options.CastOptions.{CastOptions}
 use Rattle.px_value.specs.declared.cast_options.CastOptions.TheVariants.{Strict, NonStrict, Overflowing}
 use Rattle.px_value.specs.declared.closed_interval.ClosedInterval.{ClosedInterval}
@@ -26,12 +25,12 @@ use Rattle.px_document.specs.Document.{kind_named, place_of, column_of}
 use Rattle.px_document.specs.Form.{items, fields, field}
 
 -- the one of these that has the text as its name
-abbrev pub named : {A : Type 0} → List (List ℕ × A) → List ℕ → Option A
-named [] s = None
-named (n ∷ names) s = if bytes_eq s n.0 then Some n.1 else named names s
+abbrev pub meant_by : {A : Type 0} → List (List ℕ × A) → List ℕ → Option A
+meant_by [] s = None
+meant_by (n ∷ names) s = if bytes_eq s n.0 then Some n.1 else meant_by names s
 
 abbrev pub operator_named : List ℕ → Option Operator
-operator_named s = named
+operator_named s = meant_by
     ((codes "Eq", Eq) ∷ (codes "EqValidity", EqValidity) ∷ (codes "NotEq", NotEq) ∷ (codes "NotEqValidity", NotEqValidity)
     ∷ (codes "Lt", Lt) ∷ (codes "LtEq", LtEq) ∷ (codes "Gt", Gt) ∷ (codes "GtEq", GtEq)
     ∷ (codes "Plus", Plus) ∷ (codes "Minus", Minus) ∷ (codes "Multiply", Multiply)
@@ -39,23 +38,23 @@ operator_named s = named
     ∷ (codes "And", And) ∷ (codes "Or", Or) ∷ (codes "Xor", Xor) ∷ (codes "LogicalAnd", LogicalAnd) ∷ (codes "LogicalOr", LogicalOr) ∷ []) s
 
 abbrev pub cast_named : List ℕ → Option CastOptions
-cast_named s = named ((codes "Strict", Strict) ∷ (codes "NonStrict", NonStrict) ∷ (codes "Overflowing", Overflowing) ∷ []) s
+cast_named s = meant_by ((codes "Strict", Strict) ∷ (codes "NonStrict", NonStrict) ∷ (codes "Overflowing", Overflowing) ∷ []) s
 
 abbrev pub closed_named : List ℕ → Option ClosedInterval
-closed_named s = named ((codes "Both", closed.Both) ∷ (codes "Left", closed.Left) ∷ (codes "Right", closed.Right) ∷ (codes "None", closed.None) ∷ []) s
+closed_named s = meant_by ((codes "Both", closed.Both) ∷ (codes "Left", closed.Left) ∷ (codes "Right", closed.Right) ∷ (codes "None", closed.None) ∷ []) s
 
 -- the reductions that take nothing but their input
 abbrev pub reduction_named : List ℕ → Option GroupByMethod
-reduction_named s = named
+reduction_named s = meant_by
     ((codes "Min", Min) ∷ (codes "Max", Max) ∷ (codes "Sum", Sum) ∷ (codes "First", First) ∷ (codes "Last", Last) ∷ (codes "NUnique", NUnique) ∷ (codes "Implode", Implode) ∷ []) s
 
 -- the functions of one input that take nothing else
 abbrev pub function_named : List ℕ → Option FunctionExpr
-function_named s = named
+function_named s = meant_by
     ((codes "IsNull", IsNull) ∷ (codes "IsNotNull", IsNotNull) ∷ (codes "Not", Not) ∷ (codes "Reverse", Reverse) ∷ (codes "DropNulls", DropNulls) ∷ (codes "NullCount", NullCount) ∷ []) s
 
 abbrev pub mapping_named : List ℕ → Option WindowMapping
-mapping_named s = named ((codes "GroupsToRows", mapping.GroupsToRows) ∷ (codes "Join", mapping.Join) ∷ (codes "Explode", mapping.Explode) ∷ []) s
+mapping_named s = meant_by ((codes "GroupsToRows", mapping.GroupsToRows) ∷ (codes "Join", mapping.Join) ∷ (codes "Explode", mapping.Explode) ∷ []) s
 
 -- the text of a name
 abbrev pub is_text : List ℕ → Data → Bool
@@ -212,8 +211,8 @@ module _ (expr : Data → Option Tree) where
     Some (sort_by input (trees_of by) options)
   sort_by_parts _ = None
 
-  abbrev pub count_of : Data → Data → Option Tree
-  count_of e n = do
+  abbrev pub count_parts : Data → Data → Option Tree
+  count_parts e n = do
     input ← expr e
     with_nulls ← as_bool n
     Some (agg (Count with_nulls) input)
@@ -224,7 +223,7 @@ module _ (expr : Data → Option Tree) where
     method ← as_str m >>= reduction_named
     input ← expr e
     Some (agg method input)
-  reduction_parts (m ∷ e ∷ n ∷ []) = if is_text (codes "Count") m then count_of e n else None
+  reduction_parts (m ∷ e ∷ n ∷ []) = if is_text (codes "Count") m then count_parts e n else None
   reduction_parts _ = None
 
   abbrev pub order_parts : List Data → Option Order
@@ -238,14 +237,14 @@ module _ (expr : Data → Option Tree) where
   abbrev pub order_of : Data → Option Order
   order_of d = if is_some (as_null d) then Some no_order else items d >>= order_parts
 
-  abbrev pub window_parts : List Data → Option Tree
-  window_parts (f ∷ k ∷ o ∷ m ∷ []) = do
+  abbrev pub over_parts : List Data → Option Tree
+  over_parts (f ∷ k ∷ o ∷ m ∷ []) = do
     function' ← expr f
     keys ← items k >>= each expr
     order ← order_of o
     mapping ← as_str m >>= mapping_named
     Some (window function' (trees_of keys) order mapping)
-  window_parts _ = None
+  over_parts _ = None
 
   -- the forms, each under its key
   unfoldable pub expr_form : Data → Option Tree
@@ -267,7 +266,7 @@ module _ (expr : Data → Option Tree) where
       (option_or (field (codes "sort_by") d >>= items >>= sort_by_parts)
       (option_or (field (codes "agg") d >>= items >>= reduction_parts)
       (option_or (option_map (λ _. len) (field (codes "len") d >>= as_null))
-      (field (codes "over") d >>= fields (codes "function" ∷ codes "keys" ∷ codes "order" ∷ codes "mapping" ∷ []) >>= window_parts)))))))))))))))))
+      (field (codes "over") d >>= fields (codes "function" ∷ codes "keys" ∷ codes "order" ∷ codes "mapping" ∷ []) >>= over_parts)))))))))))))))))
 
 -- an expression with at most n expressions inside one another
 abbrev pub expr_within : ℕ → Data → Option Tree

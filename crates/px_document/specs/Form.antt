@@ -2,7 +2,7 @@
 use Rattle.std.specs.Prelude.{◌≡◌, ℕ, suc, ◌==◌, Bool, false, List, [], ◌∷◌, ◌++◌, length, Option, Some, None, option_map, unwrap_or, if◌then◌else◌, Result, Ok, Err}
 use Rattle.serde_json.specs.Data.{Data, object, Items, no_items, item, Members, no_members, member}
 use Rattle.serde_json.specs.Find.{get, as_array, as_object}
-use Rattle.px_value.specs.Option.{◌>>=◌, each}
+use Rattle.px_column.specs.Option.{◌>>=◌, each}
 use Rattle.px_document.specs.declared.document.fault.DocumentFault.{DocumentFault}
 use Rattle.px_document.specs.declared.document.fault.DocumentFault.TheVariants.{BadDocument, OutOfMemory}
 

@@ -1,7 +1,7 @@
 -- The documents that are read.
 use Rattle.std.specs.Prelude.{Bool, Option, Some, None, if◌then◌else◌}
 use Rattle.std.specs.List.{list_all}
-use Rattle.px_value.specs.Option.{◌>>=◌}
+use Rattle.px_column.specs.Option.{◌>>=◌}
 use Rattle.px_tree.specs.Built.{is_built}
 use Rattle.px_document.specs.Document.{Doc}
 

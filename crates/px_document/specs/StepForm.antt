@@ -3,7 +3,7 @@ use Rattle.std.specs.Prelude.{ℕ, ◌^◌, nat_lt, nat_le, List, [], ◌∷◌,
 use Rattle.std.specs.Option.{option_or}
 use Rattle.serde_json.specs.Data.{Data}
 use Rattle.serde_json.specs.Find.{as_null, as_number, as_u64}
-use Rattle.px_value.specs.Option.{◌>>=◌, each}
+use Rattle.px_column.specs.Option.{◌>>=◌, each}
 use Rattle.px_document.specs.Document.{Doc, column_of}
 use Rattle.px_document.specs.ExprForm.{expr_of}
 use Rattle.px_document.specs.Form.{items, fields, field}

@@ -2,10 +2,8 @@
 use Rattle.std.specs.Prelude.{ℕ, zero, suc, ◌+◌, ◌/◌, ◌%◌, ◌==◌, nat_lt, if◌then◌else◌, true, false, List, [], ◌∷◌, ◌++◌, None, Some, map, codes}
 use Rattle.std.specs.Fmt.{signed_decimal}
 use Rattle.std.specs.List.{flat_map, join_with_byte, range_with_len}
-use Rattle.px_value.specs.Datum.{Datum, boolean, integer, text, bytes, list, Slots, no_slots, absent, present, Slot}
-use Rattle.px_value.specs.Kind.{Kind, booleans, int8s, int16s, int32s, int64s, uint8s, uint16s, uint32s, uint64s, strings, binaries, nulls, lists}
+use Rattle.px_column.specs.Prelude.{Datum, boolean, integer, text, bytes, list, Slots, no_slots, absent, present, Slot, Kind, booleans, int8s, int16s, int32s, int64s, uint8s, uint16s, uint32s, uint64s, strings, binaries, nulls, lists, Series}
 use Rattle.px_column.specs.Key.{key_at}
-use Rattle.px_value.specs.Series.{Series}
 
 -- the digit of a number below 16, with lower-case letters
 abbrev pub hex_digit : ℕ → ℕ

@@ -1,6 +1,6 @@
 //! The line that tells of a fault.
 ghost use Rattle.std.specs.Prelude.{◌≡◌, ◌++◌, OnOk, Ok};
-ghost use Rattle.px_value.specs.Answer.{Answers};
+ghost use Rattle.px_column.specs.Prelude.{Answers};
 ghost use Rattle.px_document.specs.Label.{compute_name, invalid_name, label_of, labelled, line_of};
 ghost use Rattle.px_document.specs.Text.{quoted};
 

@@ -1,7 +1,7 @@
 //! A source and a sink over memory, which fail where they are told to.
 ghost use Rattle.std.specs.Prelude.{◌≡◌, ◌<◌, ◌≤◌, ◌⊎◌, [], Ok, length, IfOk, OnOk, OnErr};
 ghost use Rattle.std.specs.Result.{result_ok};
-ghost use Rattle.px_value.specs.Answer.{Answers};
+ghost use Rattle.px_column.specs.Prelude.{Answers};
 ghost use Rattle.px_ends.specs.Ends.{Gives, Takes, Rose};
 ghost use Rattle.px_ends.specs.Memory.{is_listed, read_gives, read_leaves, write_takes, write_leaves};
 

@@ -2,15 +2,13 @@
 use Rattle.std.proofs.Common.{◌≡◌, ◌==◌, ℕ, zero, suc, Bool, true, false, cond, ◌&&◌, ◌||◌, List, [], ◌∷◌, ◌++◌, Option, Some, None, Ok, Err, Result, Bor, IfSome, IfOk, inl, inr, drop, map, option_map, is_none, refl, sym, ◌∙◌, ap, arith}
 use Rattle.std.specs.List.{Contains, find, list_any, flat_map}
 use Rattle.std.proofs.lemmas.Bool.Decides.{nat_tests}
-use Rattle.px_value.specs.Series.{Series}
+use Rattle.px_column.specs.Prelude.{Series, Answers, AnswersBy, Kind}
 use Rattle.px_frame.specs.External.{Frame, alone, scope_of, look_in}
 use Rattle.px_frame.specs.Frame.{look, has_name, name_eq, names_of, first_repeat, IsFrame}
 use Rattle.px_frame.specs.Schema.{FieldKind, column_field, has_field_name}
 use Rattle.px_tree.specs.Tree.{column}
-use Rattle.px_value.specs.Answer.{Answers, AnswersBy}
 use Rattle.px_frame.specs.SchemaView.{field_kind}
 use Rattle.px_frame.specs.declared.schema.Field.{Field}
-use Rattle.px_value.specs.Kind.{Kind}
 use Rattle.px_value.specs.declared.error.PxError.{PxError}
 use Rattle.px_value.specs.declared.error.PxError.TheVariants.{ColumnNotFound, ShapeMismatch}
 use Rattle.px_tree.specs.Typing.{kind_of_name, refused_where}

@@ -6,7 +6,7 @@ use borrow.Author.Tests.{lt-ltb, ltb-true}
 use Rattle.std.proofs.lemmas.Str.Parse.{IsNumeralModel, numerals_by_value, tells_all_ascii_digits}
 use Rattle.std.specs.Str.{all_ascii_digits}
 use Rattle.std.specs.Str.Parse.{IsNumeral, digits_value}
-use Rattle.px_operation.specs.Cast.{natural_of}
+use Rattle.px_column.specs.Cast.{natural_of}
 use Rattle.px_value.specs.declared.error.PxError.TheVariants.{ComputeError}
 use Rattle.px_value.specs.declared.error.ComputeWhy.TheVariants.{DepthText}
 use Rattle.px_expr.specs.Depth.{numbered_depth_limit}

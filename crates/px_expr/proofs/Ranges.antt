@@ -5,13 +5,10 @@ use Rattle.std.specs.Prelude.{if◌then◌else◌}
 use Rattle.std.proofs.lemmas.Bool.Decides.{nat_tests}
 use Rattle.std.proofs.lemmas.List.FromFn.{map-range_with_len_more, length-map-range_with_len}
 use Rattle.std.proofs.lemmas.List.{length-map, map_push}
-use Rattle.px_value.specs.Answer.{Answers}
+use Rattle.px_column.specs.Prelude.{Answers, integer, Slot, Kind, booleans, int8s, int16s, int32s, int64s, uint8s, uint16s, uint32s, uint64s, strings, binaries, nulls, lists, fits, slot_fits, slots_fit, Series, slot_of, slots_of}
 use Rattle.px_column.specs.Column.{made}
-use Rattle.px_value.specs.Datum.{integer, Slot}
-use Rattle.px_value.specs.Kind.{Kind, booleans, int8s, int16s, int32s, int64s, uint8s, uint16s, uint32s, uint64s, strings, binaries, nulls, lists, fits, slot_fits, slots_fit, is_signed, is_unsigned}
+use Rattle.px_column.specs.Kind.{is_signed, is_unsigned}
 use Rattle.px_tree.specs.Node.{integers, natural}
-use Rattle.px_value.specs.Series.{Series}
-use Rattle.px_value.specs.View.{slot_of, slots_of}
 use Rattle.px_value.specs.declared.error.PxError.{PxError}
 use Rattle.px_value.specs.declared.value.Value.{Value}
 use Rattle.px_tree.specs.Typing.{is_range_kind}

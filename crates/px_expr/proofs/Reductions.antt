@@ -1,13 +1,10 @@
 -- A reduction's value, type and causes, from those of its input.
 use Rattle.std.proofs.Common.{◌≡◌, ℕ, ◌≤◌, ◌^◌, cond, Bool, true, false, not, List, [], ◌∷◌, ◌++◌, Option, Some, None, Result, Ok, Err, IfOk, IfErr, length, map, ◌⊎◌, inl, inr, max, refl, sym, ◌∙◌, ap, subst, arith}
 use Rattle.std.specs.List.{Contains, flat_map}
-use Rattle.px_value.specs.Answer.{Answers, AnswersBy}
-use Rattle.px_value.specs.Datum.{Slot}
-use Rattle.px_value.specs.Kind.{Kind, is_list_kind, uint32s}
-use Rattle.px_value.specs.Result.{◌>>=◌}
-use Rattle.px_operation.specs.Reduction.{reduced, reduced_as, reduced_kind, reduced_slot, unless_list, kind_there}
-use Rattle.px_value.specs.Series.{Series, slot_at}
-use Rattle.px_operation.specs.Sum.{sum_kind}
+use Rattle.px_column.specs.Prelude.{Answers, AnswersBy, Slot, Kind, is_list_kind, uint32s, Series, slot_at}
+use Rattle.px_column.specs.Result.{◌>>=◌}
+use Rattle.px_column.specs.Reduction.{reduced, reduced_as, reduced_kind, reduced_slot, unless_list, kind_there}
+use Rattle.px_column.specs.Sum.{sum_kind}
 use Rattle.px_value.specs.declared.error.PxError.{PxError}
 use Rattle.px_value.specs.declared.error.PxError.TheVariants.{ColumnNotFound, Duplicate, InvalidOperation, ComputeError, OutOfBounds, ShapeMismatch, SchemaMismatch, OutOfMemory}
 use Rattle.px_value.specs.declared.error.InvalidWhy.TheVariants.{ListKey, Types}

@@ -1,6 +1,6 @@
 -- Values without a frame.
 use Rattle.std.specs.Prelude.{ℕ, zero, suc, Bool, true, false, [], Option, None, if◌then◌else◌}
-use Rattle.px_value.specs.Series.{Series}
+use Rattle.px_column.specs.Prelude.{Series}
 use Rattle.px_frame.specs.External.{alone}
 use Rattle.px_tree.specs.Shape.{is_single}
 use Rattle.px_tree.specs.Tree.{Tree, Literal, range, literal, alias}

@@ -1,8 +1,6 @@
 -- The columns of literals.
 use Rattle.std.specs.Prelude.{ℕ, ◌^◌, ℤ, ◌-ℤ◌, ◌&&◌, nat_lt, codes, List, [], ◌∷◌, Option, Some, None, Result, Ok, Err, if◌then◌else◌}
-use Rattle.px_value.specs.Datum.{integer}
-use Rattle.px_value.specs.Kind.{Kind, fits}
-use Rattle.px_value.specs.Series.{Series}
+use Rattle.px_column.specs.Prelude.{integer, Kind, fits, Series}
 use Rattle.px_value.specs.declared.error.PxError.{PxError}
 use Rattle.px_value.specs.declared.error.PxError.TheVariants.{InvalidOperation, ComputeError}
 use Rattle.px_value.specs.declared.error.InvalidWhy.TheVariants.{RangeType}

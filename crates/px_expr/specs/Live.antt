@@ -1,8 +1,8 @@
 -- What a node tells of its expression.
 use Rattle.std.specs.Prelude.{◌≡◌, ℕ, Bool, true, false, List, [], ◌∷◌, ◌++◌, Option, Some, None, Result, Ok, Err, fold, take}
 use Rattle.indexmap.specs.IndexSet.{insert_key}
-use Rattle.px_value.specs.Kind.{Kind}
-use Rattle.px_value.specs.Result.{◌>>=◌}
+use Rattle.px_column.specs.Prelude.{Kind}
+use Rattle.px_column.specs.Result.{◌>>=◌}
 use Rattle.px_value.specs.declared.error.PxError.{PxError}
 use Rattle.px_frame.specs.Frame.{name_eq}
 use Rattle.px_frame.specs.Schema.{FieldKind}

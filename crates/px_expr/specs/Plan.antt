@@ -1,7 +1,7 @@
 -- What the planner makes of an expression.
 use Rattle.std.specs.Prelude.{◌≡◌, ℕ, ◌+◌, ◌<◌, true, ◌||◌, List, [], ◌∷◌, Option, Some, None, Result, Ok, length, map, fold, take}
-use Rattle.px_value.specs.Answer.{Refuses}
-use Rattle.px_value.specs.Result.{◌>>=◌}
+use Rattle.px_column.specs.Prelude.{Refuses}
+use Rattle.px_column.specs.Result.{◌>>=◌}
 use Rattle.px_value.specs.declared.error.PxError.{PxError}
 use Rattle.px_arena.specs.Arena.{tree_at}
 use Rattle.px_arena.specs.Named.{NamedNode}

@@ -1,8 +1,8 @@
 -- What evaluating a node answers: the value of its expression as a column, or a cause for there being none.
 use Rattle.std.specs.Prelude.{◌≡◌, ◌⊎◌, ℕ, ◌^◌, ◌≤◌, Bool, true, false, List, [], ◌∷◌, ◌++◌, Option, Some, None, Result, Ok, Err, length, is_none, option_map}
 use Rattle.std.specs.List.{Contains, flat_map}
-use Rattle.px_value.specs.Option.{◌>>=◌}
-use Rattle.px_value.specs.Series.{Series}
+use Rattle.px_column.specs.Option.{◌>>=◌}
+use Rattle.px_column.specs.Prelude.{Series}
 use Rattle.px_value.specs.declared.error.PxError.{PxError}
 use Rattle.px_value.specs.declared.error.PxError.TheVariants.{ColumnNotFound, Duplicate, InvalidOperation, ComputeError, OutOfBounds, ShapeMismatch, SchemaMismatch, OutOfMemory}
 use Rattle.px_value.specs.declared.error.ComputeWhy.TheVariants.{TooLong}

@@ -1,9 +1,6 @@
 //! Literals.
 ghost use Rattle.std.specs.Prelude.{◌≡◌, Ok, Some, true};
-ghost use Rattle.px_value.specs.Answer.{Answers};
-ghost use Rattle.px_value.specs.Kind.{fits};
-ghost use Rattle.px_value.specs.KindView.{kind_of};
-ghost use Rattle.px_value.specs.View.{datum_of};
+ghost use Rattle.px_column.specs.Prelude.{Answers, fits, kind_of, datum_of};
 ghost use Rattle.px_tree.specs.Tree.{single};
 ghost use Rattle.px_tree.specs.View.{literal_of};
 ghost use Rattle.px_expr.specs.Literal.{kept_column, literal_column};

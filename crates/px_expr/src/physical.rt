@@ -1,6 +1,6 @@
 //! What each node offers.
 ghost use Rattle.std.specs.Prelude.{◌≡◌, Ok, IfOk, IfErr, OnOk, OnErr, option_map};
-ghost use Rattle.px_value.specs.Answer.{AnswersBy, Answers};
+ghost use Rattle.px_column.specs.Prelude.{AnswersBy, Answers};
 ghost use Rattle.px_frame.specs.External.{alone};
 ghost use Rattle.px_frame.specs.SchemaView.{field_kind};
 ghost use Rattle.px_tree.specs.Shape.{is_unit};

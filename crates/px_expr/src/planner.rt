@@ -1,7 +1,7 @@
 //! From expressions in an arena to nodes.
 ghost use Rattle.std.specs.Prelude.{◌≡◌, ◌<◌, true, [], length, map, Ok, IfErr, OnOk, OnErr};
 ghost use Rattle.std.specs.List.{All};
-ghost use Rattle.px_value.specs.Answer.{AnswersBy};
+ghost use Rattle.px_column.specs.Prelude.{AnswersBy};
 ghost use Rattle.px_value.specs.declared.method.GroupByMethod.TheVariants.{Sum};
 ghost use Rattle.px_arena.specs.Arena.{tree_at};
 ghost use Rattle.px_tree.specs.Tree.{column, literal, alias, agg};

@@ -1,11 +1,7 @@
 //! Ranges of integers as columns.
 ghost use Rattle.std.specs.Prelude.{◌≡◌, ◌^◌, ◌+ℤ◌, ◌-ℤ◌, ◌&&◌, pos, nat_lt, length, Ok, IfOk, Some, None, map, if◌then◌else◌};
 ghost use Rattle.std.specs.List.{range_with_len};
-ghost use Rattle.px_value.specs.Answer.{Answers, AnswersBy};
-ghost use Rattle.px_value.specs.Datum.{integer};
-ghost use Rattle.px_value.specs.Kind.{fits};
-ghost use Rattle.px_value.specs.KindView.{kind_of};
-ghost use Rattle.px_value.specs.View.{slot_of, slots_of};
+ghost use Rattle.px_column.specs.Prelude.{Answers, AnswersBy, integer, fits, kind_of, slot_of, slots_of};
 ghost use Rattle.px_tree.specs.Node.{natural};
 ghost use Rattle.px_expr.specs.Literal.{range_column};
 

@@ -5,11 +5,10 @@ use Rattle.std.specs.List.{IsDistinct}
 use Rattle.std.proofs.lemmas.List.FromFn.{length-map-range_with_len}
 use Rattle.std.specs.declared.alloc.Global.{Global}
 use Rattle.smallvec.specs.declared.SmallVec.{SmallVec}
-use Rattle.px_value.specs.Datum.{Slot}
+use Rattle.px_column.specs.Prelude.{Slot, Series}
 use Rattle.px_value.specs.Decided.{IsEquivalence-decides, row_decides}
-use Rattle.px_value.specs.Equality.{row_eq}
+use Rattle.px_column.specs.Equality.{row_eq}
 use Rattle.px_column.specs.Key.{key_at, keys_of}
-use Rattle.px_value.specs.Series.{Series}
 use Rattle.px_frame.specs.Enter.{entered, AreStarted}
 use Rattle.px_frame.specs.Groups.{IsGroups, group_of}
 use Rattle.px_frame.specs.GroupsView.{idx_group}

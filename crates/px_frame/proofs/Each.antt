@@ -5,8 +5,7 @@ use Rattle.std.proofs.lemmas.Bool.Decides.{nat_tests}
 use Rattle.std.proofs.lemmas.List.{length-map}
 use Rattle.px_column.specs.Column.{taken_at, all_within}
 use Rattle.px_value.proofs.FitLaws.{both}
-use Rattle.px_value.specs.Datum.{Slot}
-use Rattle.px_value.specs.Series.{Series, slot_at}
+use Rattle.px_column.specs.Prelude.{Slot, Series, slot_at}
 use Rattle.px_frame.specs.Aggregate.{has_row, key_column}
 use Rattle.px_frame.specs.Frame.{are_below, all_have_height, has_height, are_in_all, taken_series}
 use Rattle.px_frame.specs.Groups.{Group, first_row, is_group, IsGroups}

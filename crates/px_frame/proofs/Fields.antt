@@ -4,7 +4,7 @@ use Rattle.std.specs.List.{IsDistinct, list_any}
 use Rattle.std.specs.Map.{keys_of, lookup, lookup_key}
 use Rattle.std.proofs.lemmas.List.{map_push}
 use Rattle.std.proofs.lemmas.Map.Made.{is_some-lookup}
-use Rattle.px_value.specs.KindView.{kind_of}
+use Rattle.px_column.specs.Prelude.{kind_of}
 use Rattle.px_value.specs.declared.data_type.DataType.{DataType}
 use Rattle.px_frame.specs.Frame.{name_eq}
 use Rattle.px_frame.specs.Schema.{FieldKind, field_names, has_field_name, is_field_name}

@@ -5,7 +5,7 @@ use Rattle.std.specs.List.{position, position_or_len, find, list_all}
 use Rattle.std.proofs.lemmas.Bool.Decides.{nat_tests}
 use Rattle.std.proofs.lemmas.List.{length-map}
 use Rattle.std.proofs.lemmas.List.Folds.{find_at}
-use Rattle.px_value.specs.Series.{Series}
+use Rattle.px_column.specs.Prelude.{Series}
 use Rattle.px_frame.specs.Frame.{name_eq, has_name, names_of, look, height_of, has_height, is_even}
 use Rattle.px_frame.proofs.Each.{has_height_is}
 use Rattle.px_value.proofs.FitLaws.{both}

@@ -1,8 +1,7 @@
 -- Rows that are made one for each group.
 use Rattle.std.proofs.Common.{◌≡◌, ℕ, ◌+◌, List, [], ◌∷◌, ◌++◌, Option, Some, map, take, slice_get, sym, ◌∙◌, ap}
 use Rattle.std.proofs.lemmas.List.{map_push}
-use Rattle.px_value.specs.Datum.{Slot}
-use Rattle.px_value.specs.View.{slot_of, slots_of}
+use Rattle.px_column.specs.Prelude.{Slot, slot_of, slots_of}
 use Rattle.px_value.specs.declared.value.Value.{Value}
 use Rattle.px_frame.proofs.Each.{map_next}
 

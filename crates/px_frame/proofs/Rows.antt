@@ -2,9 +2,8 @@
 use Rattle.std.proofs.Common.{◌≡◌, ℕ, Bool, true, ◌&&◌, List, [], ◌∷◌, Some, Result, Ok, Err, length, map, refl, ◌∙◌, ap, nat_lt, if◌then◌else◌, arith}
 use Rattle.std.proofs.lemmas.Bool.Decides.{nat_tests}
 use Rattle.std.proofs.lemmas.List.{length-map}
-use Rattle.px_value.specs.Datum.{Slot}
+use Rattle.px_column.specs.Prelude.{Slot, Series, slot_at}
 use Rattle.px_column.specs.Column.{taken_at, all_within}
-use Rattle.px_value.specs.Series.{Series, slot_at}
 use Rattle.px_value.specs.declared.error.PxError.{PxError}
 use Rattle.px_value.specs.declared.error.PxError.TheVariants.{ShapeMismatch}
 use Rattle.px_frame.proofs.Each.{has_height_is}

@@ -1,9 +1,7 @@
 -- One value for each group.
 use Rattle.std.specs.Prelude.{pos, Bool, nat_lt, List, [], Option, Some, None, Result, Ok, Err, length, map}
-use Rattle.px_value.specs.Datum.{integer, Slot}
-use Rattle.px_value.specs.Kind.{Kind, uint32s}
-use Rattle.px_value.specs.Series.{Series, slot_at}
-use Rattle.px_operation.specs.Sum.{sum_kind, summed}
+use Rattle.px_column.specs.Prelude.{integer, Slot, Kind, uint32s, Series, slot_at}
+use Rattle.px_column.specs.Sum.{sum_kind, summed}
 use Rattle.px_value.specs.declared.error.PxError.{PxError}
 use Rattle.px_value.specs.declared.error.PxError.TheVariants.{InvalidOperation}
 use Rattle.px_value.specs.declared.error.InvalidWhy.TheVariants.{Types}

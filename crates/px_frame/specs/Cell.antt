@@ -1,6 +1,6 @@
 -- The value of an expression on a frame: one value, or one for each of some rows.
 use Rattle.std.specs.Prelude.{ℕ, List, [], ◌∷◌, Some, length}
-use Rattle.px_value.specs.Datum.{list, Slot, slots}
+use Rattle.px_column.specs.Prelude.{list, Slot, slots}
 
 -- one value, or one for each of some rows
 pub data Cell : Type 0 where

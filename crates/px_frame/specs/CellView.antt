@@ -1,5 +1,5 @@
 -- What a cell of the program stands for: its name, its type, and one value or the rows of a column.
-use Rattle.px_value.specs.Series.{Series, slot_at}
+use Rattle.px_column.specs.Prelude.{Series, slot_at}
 use Rattle.px_frame.specs.Cell.{unit, rows}
 use Rattle.px_frame.specs.Spread.{NamedCell}
 use Rattle.px_frame.specs.declared.cell.Cell.{Cell}

@@ -1,7 +1,7 @@
 -- Frames with columns beside them, which other frames hand in.
 use Rattle.std.specs.Prelude.{ℕ, ◌==◌, List, [], ◌∷◌, ◌++◌, Option, fold, length, map, if◌then◌else◌}
 use Rattle.std.specs.Option.{option_or}
-use Rattle.px_value.specs.Series.{Series}
+use Rattle.px_column.specs.Prelude.{Series}
 use Rattle.px_frame.specs.Frame.{look, height_of, series_at}
 use Rattle.px_frame.specs.Schema.{FieldKind, column_field, is_field_name}
 

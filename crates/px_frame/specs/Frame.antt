@@ -2,9 +2,8 @@
 use Rattle.std.specs.Prelude.{◌≡◌, ℕ, ◌==◌, Bool, true, List, [], ◌∷◌, ◌++◌, Option, Some, None, Result, Ok, Err, length, map, find, nat_lt, if◌then◌else◌}
 use Rattle.std.specs.List.{list_any, list_all}
 use lib.Pointwise.{pointwise}
-use Rattle.px_value.specs.Datum.{Slot}
+use Rattle.px_column.specs.Prelude.{Slot, Series, slot_at}
 use Rattle.px_column.specs.Column.{taken_at, all_within}
-use Rattle.px_value.specs.Series.{Series, slot_at}
 use Rattle.px_value.specs.declared.error.PxError.{PxError}
 use Rattle.px_value.specs.declared.error.PxError.TheVariants.{Duplicate, ShapeMismatch}
 

@@ -1,8 +1,7 @@
 -- What contracts see of groups: the height that bounds their rows, and for each group its number `first` and its rows.
 use Rattle.std.specs.Prelude.{◌≡◌, ℕ, ◌^◌, ◌<◌, Bool, true, ◌&&◌, nat_lt, List, [], ◌∷◌, Result, Ok, Err, length, map, if◌then◌else◌}
 use Rattle.std.specs.List.{list_all, list_any}
-use Rattle.px_value.specs.Kind.{is_list_kind}
-use Rattle.px_value.specs.Series.{Series}
+use Rattle.px_column.specs.Prelude.{is_list_kind, Series}
 use Rattle.px_value.specs.declared.error.PxError.{PxError}
 use Rattle.px_value.specs.declared.error.PxError.TheVariants.{InvalidOperation, ComputeError, ShapeMismatch}
 use Rattle.px_value.specs.declared.error.InvalidWhy.TheVariants.{ListKey}

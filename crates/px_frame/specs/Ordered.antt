@@ -1,7 +1,7 @@
 -- Parts whose rows are put in order.
 use Rattle.std.specs.Prelude.{ℕ, List, [], ◌∷◌, Option, Some, None, length, map, slice_index}
-use Rattle.px_value.specs.Order.{sorted_rows}
-use Rattle.px_value.specs.Series.{Series}
+use Rattle.px_column.specs.Order.{sorted_rows}
+use Rattle.px_column.specs.Prelude.{Series}
 use Rattle.px_value.specs.declared.sort_options.SortOptions.{SortOptions}
 use Rattle.px_frame.specs.Frame.{slots_at}
 use Rattle.px_frame.specs.Parts.{parts_of}

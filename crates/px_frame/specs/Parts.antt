@@ -1,9 +1,9 @@
 -- The parts of a frame by keys: for each key, in order of first appearance, the numbers of the rows that have it, rising.
 use Rattle.std.specs.Prelude.{ℕ, ◌+◌, Bool, List, [], ◌∷◌, ◌++◌, fold, map, if◌then◌else◌}
 use Rattle.std.specs.List.{list_any}
-use Rattle.px_value.specs.Equality.{row_eq}
+use Rattle.px_column.specs.Equality.{row_eq}
 use Rattle.px_column.specs.Key.{keys_of}
-use Rattle.px_value.specs.Series.{Series}
+use Rattle.px_column.specs.Prelude.{Series}
 
 module _ {K : Type 0} where
   -- the numbers of the items that pass the test, the first item being number n

@@ -2,8 +2,8 @@
 use Rattle.std.specs.Prelude.{ℕ, Bool, List, map, refl}
 use Rattle.std.specs.Coded.{Coded, coded×, coded_list, coded_ℕ, code_by}
 use Rattle.std.specs.List.{list_any}
-use Rattle.px_value.specs.Kind.{Kind, coded_kind}
-use Rattle.px_value.specs.Series.{Series}
+use Rattle.px_column.specs.Prelude.{Kind, Series}
+use Rattle.px_column.specs.Kind.{coded_kind}
 use Rattle.px_frame.specs.Frame.{name_eq}
 
 -- a field: a name and a type

@@ -1,6 +1,6 @@
 -- The name and type that a field, or an entry of a schema's map, stands for.
 use Rattle.std.specs.Prelude.{ℕ, List}
-use Rattle.px_value.specs.KindView.{kind_of}
+use Rattle.px_column.specs.Prelude.{kind_of}
 use Rattle.px_value.specs.declared.data_type.DataType.{DataType}
 use Rattle.px_frame.specs.Schema.{FieldKind}
 use Rattle.px_frame.specs.declared.schema.Field.{Field}

@@ -1,9 +1,7 @@
 -- Units beside lists: a unit takes the length of the lists beside it, which are all equally long. A list of one row is a
 -- list, and takes no other length.
 use Rattle.std.specs.Prelude.{ℕ, ◌==◌, List, [], ◌∷◌, length, map, replicate, Result, Ok, Err, if◌then◌else◌}
-use Rattle.px_value.specs.Datum.{Slot}
-use Rattle.px_value.specs.Kind.{Kind}
-use Rattle.px_value.specs.Series.{Series}
+use Rattle.px_column.specs.Prelude.{Slot, Kind, Series}
 use Rattle.px_value.specs.declared.error.PxError.{PxError}
 use Rattle.px_value.specs.declared.error.PxError.TheVariants.{ShapeMismatch}
 use Rattle.px_frame.specs.Cell.{Cell, unit, rows}

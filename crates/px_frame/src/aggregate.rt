@@ -1,11 +1,8 @@
 //! One value for each group: the groups' keys, lengths and sums (polars `agg_sum`, `group_count`).
 ghost use Rattle.std.specs.Prelude.{◌≡◌, ◌+◌, ◌<◌, ◌^◌, Ok, Some, IfOk, length, map, true, vec_len};
 ghost use Rattle.std.specs.List.{list_all};
-ghost use Rattle.px_value.specs.Answer.{Answers, AnswersBy};
-ghost use Rattle.px_value.specs.Kind.{slots_fit, uint32s};
-ghost use Rattle.px_value.specs.KindView.{kind_of};
-ghost use Rattle.px_operation.specs.Sum.{is_sum_kind};
-ghost use Rattle.px_value.specs.View.{slots_of};
+ghost use Rattle.px_column.specs.Prelude.{Answers, AnswersBy, slots_fit, uint32s, kind_of, slots_of};
+ghost use Rattle.px_column.specs.Sum.{is_sum_kind};
 ghost use Rattle.px_frame.specs.Aggregate.{key_column, has_row, sums_of, summed_by, counts_of, count_column};
 ghost use Rattle.px_frame.specs.Frame.{all_have_height};
 ghost use Rattle.px_frame.specs.Groups.{first_row, IsGroups};

@@ -1,8 +1,7 @@
 //! The values of expressions side by side: units, which take any length, beside lists of one length.
 ghost use Rattle.std.specs.Prelude.{◌≡◌, ◌<◌, ◌^◌, [], Ok, IfOk, length, map};
-ghost use Rattle.px_value.specs.Answer.{Answers, AnswersBy};
+ghost use Rattle.px_column.specs.Prelude.{Answers, AnswersBy, slot_at};
 ghost use Rattle.px_column.specs.Repeat.{repeated};
-ghost use Rattle.px_value.specs.Series.{slot_at};
 ghost use Rattle.px_frame.specs.CellView.{named_cell};
 ghost use Rattle.px_frame.specs.Frame.{first_repeat, height_of, unless_repeated};
 ghost use Rattle.px_frame.specs.Spread.{assembled, rows_beside, spread_all, spread_column};
@@ -20,7 +19,8 @@ pub struct UnitColumn {
 }
 
 impl Model for UnitColumn {
-    ghost use Rattle.px_value.specs.Series.{Series, coded_series};
+    ghost use Rattle.px_column.specs.Prelude.{Series};
+    ghost use Rattle.px_column.specs.Series.{coded_series};
 
     ghost Value = { Series };
 
@@ -61,7 +61,7 @@ impl UnitColumn {
     }
 
     /// The unit at each of `height` rows.
-    fn repeated(&self, alloc: Global, height: u32) -> Px<Column>
+    fn repeat(&self, alloc: Global, height: u32) -> Px<Column>
         ensures { Answers result (Ok (repeated self.now.name self.now.kind (slot_at self.now.slots 0) height)) }
     {
         self.column.new_from_index(alloc, 0, height)
@@ -87,7 +87,7 @@ pub fn spread(alloc: Global, cell: Cell, height: u32) -> Px<Column>
     ensures { Answers result (spread_column height (named_cell cell)) }
 {
     match cell {
-        Cell::Unit(unit) => unit.repeated(alloc, height),
+        Cell::Unit(unit) => unit.repeat(alloc, height),
         Cell::Rows(column) => {
             if column.len() == height {
                 Ok(column)

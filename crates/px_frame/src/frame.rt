@@ -1,7 +1,7 @@
 //! Frames: columns with distinct names and of one height.
 ghost use Rattle.std.specs.Prelude.{◌≡◌, ◌<◌, ◌≤◌, ◌+◌, ◌^◌, ◌++◌, ◌∷◌, [], Ok, Err, IfOk, OnErr, OnOk, IfSome, true, List, map, option_map, length, vec_len, if◌then◌else◌};
 ghost use Rattle.std.specs.List.{list_any, range_with_len};
-ghost use Rattle.px_value.specs.Answer.{Answers, AnswersBy};
+ghost use Rattle.px_column.specs.Prelude.{Answers, AnswersBy};
 ghost use Rattle.px_column.specs.Column.{all_within};
 ghost use Rattle.px_value.specs.declared.error.PxError.TheVariants.{Duplicate};
 ghost use Rattle.px_frame.specs.Frame.{look, height_of, frame_of, first_repeat, all_have_height, names_of, name_eq, unless_repeated, subframe, are_below, are_in_all, taken_series};
@@ -24,7 +24,8 @@ pub struct DataFrame {
 impl Model for DataFrame {
     ghost use Rattle.std.specs.Prelude.{List};
     ghost use Rattle.std.specs.Coded.{coded_list};
-    ghost use Rattle.px_value.specs.Series.{Series, coded_series};
+    ghost use Rattle.px_column.specs.Prelude.{Series};
+    ghost use Rattle.px_column.specs.Series.{coded_series};
 
     ghost Value = { List Series };
 

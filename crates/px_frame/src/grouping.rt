@@ -2,7 +2,7 @@
 //! `maintain_order`).
 ghost use Rattle.std.specs.Prelude.{◌≡◌, ◌+◌, Ok, IfOk, OnOk, length, map, true, vec_len};
 ghost use Rattle.std.specs.List.{IsDistinct, list_all, list_any};
-ghost use Rattle.px_value.specs.Answer.{Answers};
+ghost use Rattle.px_column.specs.Prelude.{Answers};
 ghost use Rattle.px_frame.specs.Aggregate.{has_row};
 ghost use Rattle.px_frame.specs.Enter.{entered, AreStarted};
 ghost use Rattle.px_frame.specs.Groups.{groups_by, grouped, is_list};

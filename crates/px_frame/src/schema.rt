@@ -1,8 +1,7 @@
 //! Schemas: an ordered map of names to types.
 ghost use Rattle.std.specs.Prelude.{◌≡◌, ◌==◌, ◌++◌, ◌∷◌, [], Ok, Err, OnOk, OnErr, find, length, map, option_map, position, if◌then◌else◌};
 ghost use Rattle.std.specs.List.{IsDistinct};
-ghost use Rattle.px_value.specs.Answer.{Answers, AnswersBy};
-ghost use Rattle.px_value.specs.KindView.{kind_of};
+ghost use Rattle.px_column.specs.Prelude.{Answers, AnswersBy, kind_of};
 ghost use Rattle.px_value.specs.declared.error.PxError.TheVariants.{Duplicate};
 ghost use Rattle.px_frame.specs.Frame.{first_repeat, name_eq, names_of, unless_repeated};
 ghost use Rattle.px_frame.specs.Schema.{column_field, field_names, has_field_name, is_field_name};

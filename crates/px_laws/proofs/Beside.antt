@@ -3,11 +3,10 @@ use Rattle.std.proofs.Common.{◌≡◌, ℕ, Bool, true, false, ◌&&◌, cond,
 use Rattle.std.specs.List.{find}
 use Rattle.std.specs.Option.{option_or}
 use Rattle.std.specs.Prelude.{is_some}
-use Rattle.px_value.specs.Kind.{Kind}
-use Rattle.px_value.specs.Option.{◌>>=◌, each}
-use Rattle.px_operation.specs.Operator.{operator_kind}
-use Rattle.px_operation.specs.Reduction.{reduced_kind}
-use Rattle.px_value.specs.Series.{Series}
+use Rattle.px_column.specs.Prelude.{Kind, Series}
+use Rattle.px_column.specs.Option.{◌>>=◌, each}
+use Rattle.px_column.specs.Operator.{operator_kind}
+use Rattle.px_column.specs.Reduction.{reduced_kind}
 use Rattle.px_frame.specs.Cell.{Cell, rows}
 use Rattle.px_frame.specs.External.{look_in, scope_of, rows_of_frame, with_field, external_at}
 use Rattle.px_frame.specs.Frame.{look, has_name, series_at, height_of}

@@ -2,9 +2,8 @@
 use Rattle.std.proofs.Common.{◌≡◌, ℕ, ◌==◌, Bool, true, false, cond, List, [], ◌∷◌, ◌++◌, Option, Some, None, Result, Ok, Err, option_map, length, map, fold, refl, sym, ◌∙◌, ap}
 use Rattle.std.specs.List.{find, flat_map, zip}
 use Rattle.std.specs.Option.{IsSome, is_some, option_or}
-use Rattle.px_value.specs.Kind.{Kind}
-use Rattle.px_value.specs.Option.{◌>>=◌, each}
-use Rattle.px_value.specs.Series.{Series}
+use Rattle.px_column.specs.Prelude.{Kind, Series}
+use Rattle.px_column.specs.Option.{◌>>=◌, each}
 use Rattle.px_value.specs.declared.error.PxError.{PxError}
 use Rattle.px_frame.specs.Cell.{Cell, rows}
 use Rattle.px_frame.specs.External.{Frame, height, look_in, scope_of, rows_of_frame, with_field, external_at}

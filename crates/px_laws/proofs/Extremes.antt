@@ -10,10 +10,9 @@ use Rattle.std.proofs.lemmas.Cmp.{upto, int_cmp_total, nat_list_cmp_total}
 use Rattle.std.proofs.lemmas.Bool.Decides.{nat_tests}
 use Rattle.std.proofs.lemmas.Grind.{fold-append}
 use Rattle.std.proofs.lemmas.List.Elements.{filter_map-append}
-use Rattle.px_value.specs.Datum.{Datum, boolean, integer, text, bytes, list, Slot}
-use Rattle.px_value.specs.Kind.{Kind, booleans, int8s, int16s, int32s, int64s, uint8s, uint16s, uint32s, uint64s, strings, binaries, nulls, lists, fits, slot_fits}
-use Rattle.px_value.specs.Order.{datum_cmp}
-use Rattle.px_operation.specs.Reduction.{values_of}
+use Rattle.px_column.specs.Prelude.{Datum, boolean, integer, text, bytes, list, Slot, Kind, booleans, int8s, int16s, int32s, int64s, uint8s, uint16s, uint32s, uint64s, strings, binaries, nulls, lists, fits, slot_fits}
+use Rattle.px_column.specs.Order.{datum_cmp}
+use Rattle.px_column.specs.Reduction.{values_of}
 use Rattle.px_value.proofs.FitLaws.{both as both_true}
 
 -- which kind of value a value is, and a type's values are

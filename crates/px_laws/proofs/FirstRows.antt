@@ -11,9 +11,9 @@ use Rattle.std.proofs.lemmas.Simd.{map-map}
 use Rattle.std.proofs.lemmas.List.Elements.{All-nil, All-head, All-tail, All-push, All-weaker}
 use Rattle.std.proofs.lemmas.List.Folds.{list_any-append}
 use Rattle.px_value.specs.Decided.{IsEquivalence-decides, row_decides}
-use Rattle.px_value.specs.Equality.{row_eq}
+use Rattle.px_column.specs.Equality.{row_eq}
 use Rattle.px_column.specs.Key.{keys_of}
-use Rattle.px_value.specs.Series.{Series}
+use Rattle.px_column.specs.Prelude.{Series}
 use Rattle.px_frame.specs.Groups.{first_row}
 use Rattle.px_frame.specs.Parts.{numbers, with_key, distinct, parts_of}
 use Rattle.px_laws.proofs.Joining.{neither}

@@ -2,8 +2,7 @@
 use Rattle.std.proofs.Common.{◌≡◌, ℕ, zero, suc, ◌<◌, List, [], ◌∷◌, length, map, refl, arith}
 use Rattle.std.proofs.lemmas.List.{length-map}
 use Rattle.std.specs.List.{slice_index}
-use Rattle.px_value.specs.Datum.{Slot}
-use Rattle.px_value.specs.Series.{Series, slot_at}
+use Rattle.px_column.specs.Prelude.{Slot, Series, slot_at}
 use Rattle.px_frame.specs.External.{Frame, height, rows_of_frame}
 use Rattle.px_frame.specs.Frame.{height_of, series_at, slots_at}
 

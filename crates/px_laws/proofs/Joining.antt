@@ -7,14 +7,12 @@ use Rattle.std.specs.Result.{result_map_both}
 use Rattle.std.proofs.lemmas.List.{length-append, map-append, replicate-append-replicate, length-replicate}
 use Rattle.std.proofs.lemmas.List.Folds.{list_any-append}
 use Rattle.std.proofs.lemmas.Bool.Decides.{nat_tests}
-use Rattle.px_operation.specs.Cast.{cast_slot, cast_slots, items_cast, before}
-use Rattle.px_value.specs.Datum.{Slot, Slots, no_slots, absent, present, slots, items}
-use Rattle.px_operation.specs.Function.{is_null_slot, is_not_null_slot, not_slot, between_slot}
-use Rattle.px_value.specs.Kind.{Kind}
-use Rattle.px_operation.specs.Operator.{operated}
-use Rattle.px_value.specs.Option.{◌>>=◌}
-use Rattle.px_value.specs.Result.{◌>>=◌ as ◌>>>◌}
-use Rattle.px_value.specs.Series.{Series, slot_at}
+use Rattle.px_column.specs.Cast.{cast_slot, cast_slots, items_cast, before}
+use Rattle.px_column.specs.Prelude.{Slot, Slots, no_slots, absent, present, slots, items, Kind, Series, slot_at}
+use Rattle.px_column.specs.Function.{is_null_slot, is_not_null_slot, not_slot, between_slot}
+use Rattle.px_column.specs.Operator.{operated}
+use Rattle.px_column.specs.Option.{◌>>=◌}
+use Rattle.px_column.specs.Result.{◌>>=◌ as ◌>>>◌}
 use Rattle.px_value.specs.declared.cast_options.CastOptions.{CastOptions}
 use Rattle.px_value.specs.declared.error.PxError.{PxError}
 use Rattle.px_value.specs.declared.error.PxError.TheVariants.{ShapeMismatch}

@@ -2,12 +2,11 @@
 use Rattle.std.proofs.Common.{◌≡◌, ℕ, ◌+◌, ◌-◌, ◌^◌, ◌<◌, ◌≤◌, suc, Bool, true, false, ◌&&◌, List, [], ◌∷◌, ◌++◌, Option, Some, None, Ok, option_map, length, map, refl, sym, ◌∙◌, ap, arith}
 use Rattle.std.specs.List.{flat_map, list_all, list_any}
 use Rattle.std.proofs.lemmas.List.{append-nil, length-append, length-map}
-use Rattle.px_value.specs.Datum.{list, Slot, slots, items, items-slots}
-use Rattle.px_value.specs.Kind.{Kind, booleans, int8s, int16s, int32s, int64s, uint8s, uint16s, uint32s, uint64s, strings, binaries, nulls, lists}
-use Rattle.px_value.specs.Option.{◌>>=◌, each}
-use Rattle.px_operation.specs.Reduction.{unless_list, reduced_kind, count_slot, sum_slot}
-use Rattle.px_value.specs.Series.{Series, slot_at}
-use Rattle.px_operation.specs.Sum.{sum_kind, is_sum_kind, summed}
+use Rattle.px_column.specs.Prelude.{list, Slot, slots, items, Kind, booleans, int8s, int16s, int32s, int64s, uint8s, uint16s, uint32s, uint64s, strings, binaries, nulls, lists, Series, slot_at}
+use Rattle.px_column.specs.Datum.{items-slots}
+use Rattle.px_column.specs.Option.{◌>>=◌, each}
+use Rattle.px_column.specs.Reduction.{unless_list, reduced_kind, count_slot, sum_slot}
+use Rattle.px_column.specs.Sum.{sum_kind, is_sum_kind, summed}
 use Rattle.px_value.specs.declared.error.PxError.{PxError}
 use Rattle.px_value.specs.declared.error.PxError.TheVariants.{ComputeError}
 use Rattle.px_value.specs.declared.error.ComputeWhy.TheVariants.{AggLiteral}

@@ -5,9 +5,8 @@ use Rattle.std.specs.List.{AllZip, concat, range_with_len, slice_index}
 use Rattle.std.specs.List.Sorted.{IsPermutation}
 use Rattle.std.specs.Ordering.{is_lt}
 use Rattle.std.proofs.lemmas.List.Sorted.{IsPermutation-refl, IsPermutation-sym, IsPermutation-trans, IsPermutation-cons, IsPermutation-append, IsPermutation-append_left, IsPermutation-map, IsPermutation-middle}
-use Rattle.px_value.specs.Datum.{Slot}
-use Rattle.px_value.specs.Order.{row_cmp, with_row, sorted_rows}
-use Rattle.px_value.specs.Series.{Series}
+use Rattle.px_column.specs.Prelude.{Slot, Series}
+use Rattle.px_column.specs.Order.{row_cmp, with_row, sorted_rows}
 use Rattle.px_value.specs.declared.sort_options.SortOptions.{SortOptions}
 use Rattle.px_frame.specs.Frame.{slots_at}
 use Rattle.px_frame.specs.Ordered.{in_order, ordered_parts}

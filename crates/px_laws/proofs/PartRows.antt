@@ -9,11 +9,10 @@ use Rattle.std.proofs.lemmas.List.Folds.{flat_map-map}
 use Rattle.std.proofs.lemmas.List.FromFn.{length-range_with_len, get_or-range_with_len, length-map-range_with_len}
 use Rattle.std.proofs.lemmas.List.Kept.{IsStrictlyIncreasing-filter}
 use Rattle.std.proofs.lemmas.List.Sorted.{IsPermutation-refl, IsPermutation-sym, IsPermutation-trans, IsPermutation-cons, IsPermutation-append_right, IsPermutation-middle}
-use Rattle.px_value.specs.Datum.{Slot}
+use Rattle.px_column.specs.Prelude.{Slot, Series}
 use Rattle.px_value.specs.Decided.{IsEquivalence-decides, row_decides}
-use Rattle.px_value.specs.Equality.{row_eq}
+use Rattle.px_column.specs.Equality.{row_eq}
 use Rattle.px_column.specs.Key.{key_at, keys_of}
-use Rattle.px_value.specs.Series.{Series}
 use Rattle.px_frame.specs.Parts.{numbers, with_key, distinct, parts, parts_of}
 use Rattle.px_laws.specs.Keyed.{HasOneKey, HasWholeKey}
 

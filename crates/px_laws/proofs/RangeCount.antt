@@ -2,8 +2,7 @@
 use Rattle.std.proofs.Common.{◌≡◌, ◌&&◌, true, length, arith}
 use Rattle.std.specs.Prelude.{[], ◌∷◌, ℤ, pos, ◌-ℤ◌, ◌+ℤ◌, Some}
 use Rattle.std.proofs.lemmas.List.FromFn.{length-map-range_with_len}
-use Rattle.px_value.specs.Datum.{integer}
-use Rattle.px_value.specs.Kind.{Kind, fits}
+use Rattle.px_column.specs.Prelude.{integer, Kind, fits}
 use Rattle.px_frame.specs.External.{Frame}
 use Rattle.px_tree.specs.Node.{integers, natural}
 use Rattle.px_tree.specs.Size.{size_on}

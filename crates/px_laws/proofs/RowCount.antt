@@ -2,12 +2,10 @@
 use Rattle.std.proofs.Common.{◌≡◌, ℕ, suc, true, false, ◌&&◌, List, [], ◌∷◌, ◌++◌, Option, Some, None, Ok, option_map, length, map, replicate, subst, refl, sym, ◌∙◌, ap}
 use Rattle.std.specs.List.{zip, list_any}
 use Rattle.std.proofs.lemmas.List.{length-map, length-replicate}
-use Rattle.px_operation.specs.Cast.{cast_slot, cast_slots, items_cast}
-use Rattle.px_value.specs.Datum.{Slot, Slots, no_slots, slots, items}
-use Rattle.px_operation.specs.Function.{is_null_slot, is_not_null_slot, not_slot, between_slot}
-use Rattle.px_value.specs.Kind.{Kind}
-use Rattle.px_operation.specs.Operator.{operated}
-use Rattle.px_value.specs.Series.{Series, slot_at}
+use Rattle.px_column.specs.Cast.{cast_slot, cast_slots, items_cast}
+use Rattle.px_column.specs.Prelude.{Slot, Slots, no_slots, slots, items, Kind, Series, slot_at}
+use Rattle.px_column.specs.Function.{is_null_slot, is_not_null_slot, not_slot, between_slot}
+use Rattle.px_column.specs.Operator.{operated}
 use Rattle.px_value.specs.declared.cast_options.CastOptions.{CastOptions}
 use Rattle.px_frame.specs.Cell.{Cell, unit, rows}
 use Rattle.px_frame.specs.External.{Frame, look_in, scope_of, rows_of_frame}

@@ -1,15 +1,14 @@
 -- The shape of a value is that of its expression.
 use Rattle.std.proofs.Common.{◌≡◌, ℕ, Bool, true, false, not, ◌&&◌, List, [], ◌∷◌, Option, Some, None, Result, Ok, Err, option_map, length, map, subst, refl, sym, ◌∙◌, ap, if◌then◌else◌}
 use Rattle.std.specs.List.{zip, list_all}
-use Rattle.px_operation.specs.Cast.{cast_slot, cast_slots}
-use Rattle.px_value.specs.Datum.{integer, Slot}
-use Rattle.px_operation.specs.Function.{is_null_slot, is_not_null_slot, not_slot, between_slot, in_slot}
+use Rattle.px_column.specs.Cast.{cast_slot, cast_slots}
+use Rattle.px_column.specs.Prelude.{integer, Slot, Kind, fits}
+use Rattle.px_column.specs.Function.{is_null_slot, is_not_null_slot, not_slot, between_slot, in_slot}
 use Rattle.px_column.specs.Column.{null_count}
-use Rattle.px_operation.specs.Operator.{operated}
-use Rattle.px_operation.specs.Reduction.{reduced_slot, count_slot}
-use Rattle.px_value.specs.Kind.{Kind, fits}
-use Rattle.px_value.specs.Option.{◌>>=◌}
-use Rattle.px_value.specs.Result.{◌>>=◌ as ◌>>>◌}
+use Rattle.px_column.specs.Operator.{operated}
+use Rattle.px_column.specs.Reduction.{reduced_slot, count_slot}
+use Rattle.px_column.specs.Option.{◌>>=◌}
+use Rattle.px_column.specs.Result.{◌>>=◌ as ◌>>>◌}
 use Rattle.px_value.specs.declared.cast_options.CastOptions.{CastOptions}
 use Rattle.px_value.specs.declared.error.ComputeWhy.TheVariants.{NullIndex, RangeBound}
 use Rattle.px_value.specs.declared.error.PxError.{PxError}

@@ -2,13 +2,11 @@
 use Rattle.std.proofs.Common.{◌≡◌, ℕ, ◌==◌, zero, suc, ℤ, Bool, true, false, cond, not, ◌&&◌, List, [], ◌∷◌, Option, Some, None, Result, Ok, Err, map, replicate, subst, refl, sym, ◌∙◌, ap}
 use Rattle.std.specs.List.{zip, list_all}
 use Rattle.std.specs.Fmt.{signed_decimal}
-use Rattle.px_operation.specs.Cast.{cast_slot, cast_slots, items_cast, datum_cast, boolean_cast, integer_cast, text_cast, bytes_cast, list_slot, lost, number_cast, written_cast, number_written, truth_text, truth_number}
-use Rattle.px_value.specs.Datum.{Datum, boolean, integer, text, bytes, list, Slot, Slots, no_slots, slots, items}
-use Rattle.px_operation.specs.Function.{is_null_slot, is_not_null_slot, not_slot, between_slot, above, below}
-use Rattle.px_value.specs.Kind.{Kind, booleans, int8s, int16s, int32s, int64s, uint8s, uint16s, uint32s, uint64s, strings, binaries, nulls, lists, kind_eq}
-use Rattle.px_operation.specs.Operator.{operated, operator_kind, kind_where, compared, of_numbers, divided, number_in, truth_of, kleene_and, kleene_or, sum_slot, and_slot, or_slot, xor_slot, is_zero}
-use Rattle.px_value.specs.Series.{slot_at}
-use Rattle.px_operation.specs.Wrap.{is_in_range, wrapped_in}
+use Rattle.px_column.specs.Cast.{cast_slot, cast_slots, items_cast, datum_cast, boolean_cast, integer_cast, text_cast, bytes_cast, list_slot, lost, number_cast, written_cast, number_written, truth_text, truth_number}
+use Rattle.px_column.specs.Prelude.{Datum, boolean, integer, text, bytes, list, Slot, Slots, no_slots, slots, items, Kind, booleans, int8s, int16s, int32s, int64s, uint8s, uint16s, uint32s, uint64s, strings, binaries, nulls, lists, kind_eq, slot_at}
+use Rattle.px_column.specs.Function.{is_null_slot, is_not_null_slot, not_slot, between_slot, above, below}
+use Rattle.px_column.specs.Operator.{operated, operator_kind, kind_where, compared, of_numbers, divided, number_in, truth_of, kleene_and, kleene_or, plus_slot, and_slot, or_slot, xor_slot, is_zero}
+use Rattle.px_column.specs.Wrap.{is_in_range, wrapped_in}
 use Rattle.px_value.specs.declared.cast_options.CastOptions.{CastOptions}
 use Rattle.px_value.specs.declared.cast_options.CastOptions.TheVariants.{Strict, NonStrict, Overflowing}
 use Rattle.px_value.specs.declared.error.PxError.{PxError}
@@ -84,7 +82,7 @@ divided_sorted n f k x y h = by (is_zero y)
     by false = h
 
 -- a sum is a number, a text or a null, as its left operand
-sum_sorted : (n : ℕ) (k : Kind) (a b : Slot) → is_slot_of n a ≡ true → is_slot_of n (sum_slot k a b) ≡ true
+sum_sorted : (n : ℕ) (k : Kind) (a b : Slot) → is_slot_of n a ≡ true → is_slot_of n (plus_slot k a b) ≡ true
 sum_sorted n k None b h = refl
 sum_sorted n k (Some (boolean x)) b h = refl
 sum_sorted n k (Some (bytes x)) b h = refl

@@ -6,11 +6,10 @@ use Rattle.std.proofs.Math.Nat.{mod-eq_of_lt}
 use Rattle.std.proofs.lemmas.Int.{ints, int_wrap_fits, int_wrap-add_right, int_wrap-add_same, SFits-int_wrap, of_z-to_z}
 use Rattle.std.proofs.lemmas.List.{map-append}
 use Rattle.std.proofs.lemmas.Grind.{fold-append}
-use Rattle.px_value.specs.Datum.{integer, Slot}
-use Rattle.px_value.specs.Kind.{Kind, booleans, int8s, int16s, int32s, int64s, uint8s, uint16s, uint32s, uint64s, strings, binaries, nulls, lists}
-use Rattle.px_operation.specs.Reduction.{count_slot}
-use Rattle.px_operation.specs.Sum.{number_of, total, wrapped, is_sum_kind, summed}
-use Rattle.px_operation.specs.Wrap.{low_bits}
+use Rattle.px_column.specs.Prelude.{integer, Slot, Kind, booleans, int8s, int16s, int32s, int64s, uint8s, uint16s, uint32s, uint64s, strings, binaries, nulls, lists}
+use Rattle.px_column.specs.Reduction.{count_slot}
+use Rattle.px_column.specs.Sum.{addend, total, wrapped, is_sum_kind, summed}
+use Rattle.px_column.specs.Wrap.{low_bits}
 use Rattle.px_operation.proofs.WrapLaws.{low_bits_lt}
 
 -- the numbers that a type of sums tells apart are those that a width does
@@ -129,21 +128,21 @@ sum_from a b [] = refl
 sum_from a b (z ∷ zs) = ap (λ c. fold ◌+ℤ◌ c zs) (add_assoc_z a b z) ∙ sum_from a (b +ℤ z) zs
 
 -- the whole sum from a start
-total_from : (b : ℤ) (xs : List Slot) → fold ◌+ℤ◌ b (map number_of xs) ≡ b +ℤ total xs
-total_from b xs = ap (λ c. fold ◌+ℤ◌ c (map number_of xs)) (sym (add_none_z b)) ∙ sum_from b (pos 0) (map number_of xs)
+total_from : (b : ℤ) (xs : List Slot) → fold ◌+ℤ◌ b (map addend xs) ≡ b +ℤ total xs
+total_from b xs = ap (λ c. fold ◌+ℤ◌ c (map addend xs)) (sym (add_none_z b)) ∙ sum_from b (pos 0) (map addend xs)
 
 -- sums added from starts that are the same modulo the width
 sums_from : (k : Kind) (w : Wraps k) (a b : ℤ) (xss : List (List Slot)) → w.rest a ≡ w.rest b
-    → w.rest (fold ◌+ℤ◌ a (map number_of (map (summed k) xss))) ≡ w.rest (fold ◌+ℤ◌ b (map number_of (flat_map (λ (xs : List Slot). xs) xss)))
+    → w.rest (fold ◌+ℤ◌ a (map addend (map (summed k) xss))) ≡ w.rest (fold ◌+ℤ◌ b (map addend (flat_map (λ (xs : List Slot). xs) xss)))
 sums_from k w a b [] h = h
 sums_from k w a b (xs ∷ xss) h =
     let t = total xs in
     let step : w.rest (a +ℤ wrapped k t) ≡ w.rest (b +ℤ t) =
     sym (w.right a (wrapped k t)) ∙ ap (λ z. w.rest (a +ℤ z)) (w.once t) ∙ w.right a t ∙ w.left a b t h in
     sums_from k w (a +ℤ wrapped k t) (b +ℤ t) xss step
-    ∙ ap w.rest (ap (λ c. fold ◌+ℤ◌ c (map number_of (flat_map (λ (ys : List Slot). ys) xss))) (sym (total_from b xs))
-    ∙ sym (fold-append ◌+ℤ◌ b (map number_of xs) (map number_of (flat_map (λ (ys : List Slot). ys) xss)))
-    ∙ ap (fold ◌+ℤ◌ b) (sym (map-append number_of xs (flat_map (λ (ys : List Slot). ys) xss))))
+    ∙ ap w.rest (ap (λ c. fold ◌+ℤ◌ c (map addend (flat_map (λ (ys : List Slot). ys) xss))) (sym (total_from b xs))
+    ∙ sym (fold-append ◌+ℤ◌ b (map addend xs) (map addend (flat_map (λ (ys : List Slot). ys) xss)))
+    ∙ ap (fold ◌+ℤ◌ b) (sym (map-append addend xs (flat_map (λ (ys : List Slot). ys) xss))))
 
 -- the sum of the sums of some lists is that of all their places
 pub sum_merges : (k : Kind) (xss : List (List Slot)) → is_sum_kind k ≡ true → summed k (flat_map (λ (xs : List Slot). xs) xss) ≡ summed k (map (summed k) xss)
@@ -151,7 +150,7 @@ sum_merges k xss h = let w = wraps k h in ap (λ z. Some (integer z)) (w.same _ 
 
 -- counts are added, where all of them together stay in the type
 counts_from : {A : Type 0} (count : List A → ℕ) (n : ℕ) (xss : List (List A)) → count [] ≡ 0 → ((xs ys : List A) → count (xs ++ ys) ≡ count xs + count ys)
-    → fold ◌+ℤ◌ (pos n) (map number_of (map (λ xs. count_slot (count xs)) xss)) ≡ pos (n + count (flat_map (λ (xs : List A). xs) xss))
+    → fold ◌+ℤ◌ (pos n) (map addend (map (λ xs. count_slot (count xs)) xss)) ≡ pos (n + count (flat_map (λ (xs : List A). xs) xss))
 counts_from count n [] none more = ap pos (omega arith)
 counts_from count n (xs ∷ xss) none more = counts_from count (n + count xs) xss none more ∙ ap pos (omega (arith, more xs (flat_map (λ ys. ys) xss)))
 
@@ -163,5 +162,5 @@ wrapped_below n h = ap pos (low_once 32 n h)
 pub count_merges : {A : Type 0} (count : List A → ℕ) (xss : List (List A)) → count [] ≡ 0 → ((xs ys : List A) → count (xs ++ ys) ≡ count xs + count ys)
     → count (flat_map (λ (xs : List A). xs) xss) < 2 ^ 32 → count_slot (count (flat_map (λ (xs : List A). xs) xss)) ≡ summed uint32s (map (λ xs. count_slot (count xs)) xss)
 count_merges count xss none more h =
-    let all : fold ◌+ℤ◌ (pos 0) (map number_of (map (λ xs. count_slot (count xs)) xss)) ≡ pos (count (flat_map (λ xs. xs) xss)) = counts_from count 0 xss none more ∙ ap pos (omega arith) in
+    let all : fold ◌+ℤ◌ (pos 0) (map addend (map (λ xs. count_slot (count xs)) xss)) ≡ pos (count (flat_map (λ xs. xs) xss)) = counts_from count 0 xss none more ∙ ap pos (omega arith) in
     ap (λ z. Some (integer z)) (sym (ap (wrapped uint32s) all ∙ wrapped_below (count (flat_map (λ xs. xs) xss)) h))

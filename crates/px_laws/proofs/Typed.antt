@@ -4,9 +4,9 @@ use Rattle.std.specs.List.{find, list_all, list_any}
 use Rattle.std.specs.Option.{option_or}
 use Rattle.std.specs.Prelude.{is_some}
 use Rattle.std.proofs.lemmas.Bool.Decides.{nat_tests}
-use Rattle.px_value.specs.Kind.{Kind, kind_eq, kind_number, kind_back, kind_round}
-use Rattle.px_operation.specs.Operator.{operated, kind_where, is_boolean_kind}
-use Rattle.px_value.specs.Series.{Series, slot_at}
+use Rattle.px_column.specs.Prelude.{Kind, kind_eq, Series, slot_at}
+use Rattle.px_column.specs.Kind.{kind_number, kind_back, kind_round}
+use Rattle.px_column.specs.Operator.{operated, kind_where, is_boolean_kind}
 use Rattle.px_value.specs.declared.error.PxError.TheVariants.{SchemaMismatch}
 use Rattle.px_value.proofs.FitLaws.{fits_at}
 use Rattle.px_frame.specs.Cell.{Cell, unit, rows}

@@ -1,7 +1,7 @@
 -- What stands beside a frame, and the columns that are the frame's own.
 use Rattle.std.specs.Prelude.{ℕ, Bool, List, is_some}
 use Rattle.std.specs.List.{list_all}
-use Rattle.px_value.specs.Series.{Series}
+use Rattle.px_column.specs.Prelude.{Series}
 use Rattle.px_frame.specs.External.{Frame}
 use Rattle.px_frame.specs.Frame.{look}
 

@@ -1,8 +1,7 @@
 -- Columns and literals whose places fit their types.
 use Rattle.std.specs.Prelude.{Bool, true, ◌&&◌}
 use Rattle.std.specs.List.{list_all}
-use Rattle.px_value.specs.Kind.{slot_fits, slots_fit}
-use Rattle.px_value.specs.Series.{Series}
+use Rattle.px_column.specs.Prelude.{slot_fits, slots_fit, Series}
 use Rattle.px_frame.specs.External.{Frame}
 use Rattle.px_tree.specs.Tree.{Tree, Trees, Order, Literal, single, range, series, no_trees, one_tree, no_order, ordered, column, literal, alias, binary, ternary, cast, function, filter, slice, gather, sort, sort_by, agg, len, window}
 

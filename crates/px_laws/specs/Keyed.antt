@@ -2,7 +2,7 @@
 use Rattle.std.specs.Prelude.{◌≡◌, ℕ, ◌<◌, List}
 use Rattle.std.specs.List.{Contains}
 use Rattle.px_column.specs.Key.{key_at}
-use Rattle.px_value.specs.Series.{Series}
+use Rattle.px_column.specs.Prelude.{Series}
 
 -- the columns hold the same at any two of the rows
 abbrev pub HasOneKey : List Series → List ℕ → Type 0

@@ -1,9 +1,8 @@
 -- Parts of a frame's rows, an expression's values on them, and what they are merged to.
 use Rattle.std.specs.Prelude.{◌≡◌, ℕ, ◌^◌, ◌<◌, Bool, true, false, List, [], ◌∷◌, Option, Some, option_map, length}
 use Rattle.std.specs.List.{flat_map, list_all}
-use Rattle.px_value.specs.Datum.{Slot}
-use Rattle.px_value.specs.Kind.{Kind}
-use Rattle.px_value.specs.Option.{each}
+use Rattle.px_column.specs.Prelude.{Slot, Kind}
+use Rattle.px_column.specs.Option.{each}
 use Rattle.px_value.specs.declared.method.GroupByMethod.TheVariants.{Min, Max}
 use Rattle.px_frame.specs.Cell.{value_of_cell}
 use Rattle.px_frame.specs.External.{Frame, scope_of, rows_of_frame}

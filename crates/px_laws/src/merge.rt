@@ -1,6 +1,6 @@
 //! Laws of the values of an expression on parts of a frame.
 ghost use Rattle.std.specs.Prelude.{◌≡◌, ℕ, false, true, List};
-ghost use Rattle.px_value.specs.Kind.{Kind};
+ghost use Rattle.px_column.specs.Prelude.{Kind};
 ghost use Rattle.px_frame.specs.External.{Frame};
 ghost use Rattle.px_laws.specs.Fitting.{has_fitting_columns, has_fitting_literals};
 ghost use Rattle.px_laws.specs.Merge.{is_extreme, OnParts, PartsMerge};

@@ -2,8 +2,7 @@
 ghost use Rattle.std.specs.Prelude.{◌≡◌, ◌≢◌, ℕ, ◌<◌, List, Option, Ok, Err, length, map, replicate, slice_index};
 ghost use Rattle.std.specs.List.{All, AllZip, concat, range_with_len};
 ghost use Rattle.std.specs.List.Sorted.{IsPermutation, IsStrictlyIncreasing};
-ghost use Rattle.px_value.specs.Datum.{Slot};
-ghost use Rattle.px_value.specs.Series.{Series, slot_at};
+ghost use Rattle.px_column.specs.Prelude.{Slot, Series, slot_at};
 ghost use Rattle.px_value.specs.declared.error.PxError.TheVariants.{ShapeMismatch};
 ghost use Rattle.px_value.specs.declared.sort_options.SortOptions.{SortOptions};
 ghost use Rattle.px_frame.specs.Cell.{unit, rows};

@@ -1,9 +1,7 @@
 //! Laws of the value of an expression.
 ghost use Rattle.std.specs.Prelude.{◌≡◌, List, [], ℕ, Some, true, ◌&&◌, ℤ, ◌-ℤ◌, ◌∷◌};
 ghost use Rattle.std.specs.Option.{IsSome};
-ghost use Rattle.px_value.specs.Series.{Series};
-ghost use Rattle.px_value.specs.Datum.{integer};
-ghost use Rattle.px_value.specs.Kind.{Kind, fits};
+ghost use Rattle.px_column.specs.Prelude.{Series, integer, Kind, fits};
 ghost use Rattle.px_frame.specs.Cell.{Cell};
 ghost use Rattle.px_frame.specs.External.{Frame, scope_of};
 ghost use Rattle.px_tree.specs.Node.{is_unit_cell, natural};

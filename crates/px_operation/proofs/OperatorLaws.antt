@@ -2,7 +2,7 @@
 use Rattle.std.proofs.Common.{◌≡◌, ◌||◌, if◌then◌else◌, ℤ, ◌+ℤ◌, ◌-ℤ◌, ◌*ℤ◌, int_div, ◌++◌, ℕ, List, Bool, true, false, not, Option, Some, None, Result, Ok, Err, refl, subst}
 use Rattle.px_value.specs.Datum.{Datum, boolean, integer, text, bytes, list, Slot}
 use Rattle.px_value.specs.Kind.{Kind, booleans, int8s, int16s, int32s, int64s, uint8s, uint16s, uint32s, uint64s, strings, binaries, nulls, lists, fits, slot_fits, kind_eq, is_list_kind}
-use Rattle.px_operation.specs.Operator.{is_integer_kind, is_boolean_kind, is_string_kind, kind_where, operator_kind, compared, of_numbers, number_in, is_zero, divided, floor_div, floor_rem, truth_of, kleene_and, kleene_or, sum_slot, and_slot, or_slot, xor_slot, operated}
+use Rattle.px_operation.specs.Operator.{is_integer_kind, is_boolean_kind, is_string_kind, kind_where, operator_kind, compared, of_numbers, number_in, is_zero, divided, floor_div, floor_rem, truth_of, kleene_and, kleene_or, plus_slot, and_slot, or_slot, xor_slot, operated}
 use Rattle.std.specs.Int.{w128, int_bit_and, int_bit_or, int_bit_xor}
 use Rattle.std.specs.Ordering.{is_lt, is_le, is_gt, is_ge}
 use Rattle.px_value.specs.Equality.{datum_eq}
@@ -93,7 +93,7 @@ fits_divided k f a b h = fits_numbers k (divided f k) a b (λ x y. by x y (is_ze
     by x y true = refl
     by x y false = fits_wrapped k (f x y) h
 
-fits_sum : (k : Kind) (a b : Slot) → slot_fits k a ≡ true → slot_fits k (sum_slot k a b) ≡ true
+fits_sum : (k : Kind) (a b : Slot) → slot_fits k a ≡ true → slot_fits k (plus_slot k a b) ≡ true
 fits_sum k (Some (text s)) (Some (text t)) h = fits_text k s (s ++ t) h
 fits_sum k (Some (text s)) (Some (boolean d)) h = refl
 fits_sum k (Some (text s)) (Some (integer d)) h = refl

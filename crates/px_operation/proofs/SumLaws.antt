@@ -7,7 +7,7 @@ use Rattle.std.proofs.lemmas.Int.{ints}
 use Rattle.std.proofs.lemmas.List.{map-append}
 use Rattle.px_value.specs.Datum.{boolean, integer, text, bytes, list, Slot}
 use Rattle.px_value.specs.Kind.{Kind, booleans, int8s, int16s, int32s, int64s, uint8s, uint16s, uint32s, uint64s, strings, binaries, nulls, lists, slot_fits, is_signed, is_unsigned}
-use Rattle.px_operation.specs.Sum.{number_of, total, IsWithin}
+use Rattle.px_operation.specs.Sum.{addend, total, IsWithin}
 
 signed_within : (n : ℕ) (z : ℤ) → n ≤ 2 ^ 64 → is_signed n z ≡ true → IsWithin 1 z
 signed_within n (pos m) h e = let lt : m < n = grind (arith, nat_tests) in record { low = omega (arith, ints); high = omega (arith, ints) }
@@ -24,7 +24,7 @@ one_within : IsWithin 1 (pos 1)
 one_within = record { low = omega (arith, ints); high = omega (arith, ints) }
 
 -- what a slot of a type adds to a sum
-pub number_within : (k : Kind) (s : Slot) → slot_fits k s ≡ true → IsWithin 1 (number_of s)
+pub number_within : (k : Kind) (s : Slot) → slot_fits k s ≡ true → IsWithin 1 (addend s)
 number_within k None h = none_within
 number_within k (Some (boolean true)) h = one_within
 number_within k (Some (boolean b)) h = none_within
@@ -55,14 +55,14 @@ plus_none a = omega (arith, ints)
 -- the sum of rows put together is the sum of their sums
 pub total_append : (xs ys : List Slot) → total (xs ++ ys) ≡ total xs +ℤ total ys
 total_append xs ys =
-    ap (fold ◌+ℤ◌ (pos 0)) (map-append number_of xs ys)
-    ∙ fold-append ◌+ℤ◌ (pos 0) (map number_of xs) (map number_of ys)
-    ∙ ap (λ (c : ℤ). fold ◌+ℤ◌ c (map number_of ys)) (plus_none (total xs))
-    ∙ fold_from (total xs) (pos 0) (map number_of ys)
+    ap (fold ◌+ℤ◌ (pos 0)) (map-append addend xs ys)
+    ∙ fold-append ◌+ℤ◌ (pos 0) (map addend xs) (map addend ys)
+    ∙ ap (λ (c : ℤ). fold ◌+ℤ◌ c (map addend ys)) (plus_none (total xs))
+    ∙ fold_from (total xs) (pos 0) (map addend ys)
 
 -- the sum of one more row
-pub total_push : (xs : List Slot) (s : Slot) → total (xs ++ s ∷ []) ≡ total xs +ℤ number_of s
-total_push xs s = ap (fold ◌+ℤ◌ (pos 0)) (map-append number_of xs (s ∷ [])) ∙ fold-append ◌+ℤ◌ (pos 0) (map number_of xs) (number_of s ∷ [])
+pub total_push : (xs : List Slot) (s : Slot) → total (xs ++ s ∷ []) ≡ total xs +ℤ addend s
+total_push xs s = ap (fold ◌+ℤ◌ (pos 0)) (map-append addend xs (s ∷ [])) ∙ fold-append ◌+ℤ◌ (pos 0) (map addend xs) (addend s ∷ [])
 
 -- bounds of a sum of two sums
 pub within_append : (m n : ℕ) (y z : ℤ) → IsWithin m y → IsWithin n z → IsWithin (m + n) (y +ℤ z)

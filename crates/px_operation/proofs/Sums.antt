@@ -4,15 +4,15 @@ use Rattle.std.proofs.lemmas.List.{length-append}
 use Rattle.px_value.specs.Datum.{Slot}
 use Rattle.px_value.specs.Kind.{Kind, slot_fits}
 use Rattle.px_operation.specs.Reduce.{IsTotal}
-use Rattle.px_operation.specs.Sum.{number_of}
+use Rattle.px_operation.specs.Sum.{addend}
 use Rattle.px_operation.proofs.SumLaws.{number_within, total_append, total_push, within_append}
 
 -- the sum of one more row
-pub total_one : (made : Kind) (r z : ℤ) (s : Slot) (k : Kind) (xs : List Slot) → r ≡ z +ℤ number_of s → IsTotal made z k xs → slot_fits k s ≡ true → IsTotal made r k (xs ++ s ∷ [])
+pub total_one : (made : Kind) (r z : ℤ) (s : Slot) (k : Kind) (xs : List Slot) → r ≡ z +ℤ addend s → IsTotal made z k xs → slot_fits k s ≡ true → IsTotal made r k (xs ++ s ∷ [])
 total_one made r z s k xs e h f = record {
   kind = h.kind;
-  total = e ∙ ap (λ (y : ℤ). y +ℤ number_of s) h.total ∙ sym (total_push xs s);
-  within = let w = within_append (length xs) 1 z (number_of s) h.within (number_within k s f) in rw (e, length-append xs (s ∷ [])) w;
+  total = e ∙ ap (λ (y : ℤ). y +ℤ addend s) h.total ∙ sym (total_push xs s);
+  within = let w = within_append (length xs) 1 z (addend s) h.within (number_within k s f) in rw (e, length-append xs (s ∷ [])) w;
 }
 
 -- the sum of the rows of two states

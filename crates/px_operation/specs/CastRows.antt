@@ -2,7 +2,7 @@
 use Rattle.std.specs.Prelude.{◌≡◌, [], ◌∷◌, Result, Ok, Err, codes}
 use Rattle.px_operation.specs.Cast.{cast_slot, cast_slots}
 use Rattle.px_value.specs.Kind.{booleans, int8s, int64s, uint8s, uint64s, strings, binaries, nulls, lists}
-use Rattle.px_value.specs.Rows.{num, neg, yes, no, gone, list_of, text_of, bytes_of}
+use Rattle.px_value.specs.Rows.{num, neg, yes, no, gone, list_slot, text_of, bytes_of}
 use Rattle.px_value.specs.declared.cast_options.CastOptions.TheVariants.{Strict, NonStrict, Overflowing}
 use Rattle.px_value.specs.declared.error.PxError.{PxError}
 use Rattle.px_value.specs.declared.error.PxError.TheVariants.{InvalidOperation}
@@ -58,11 +58,11 @@ pub record TextCastRows : Type 0 where
 
 -- casts of lists element by element, and of whole columns
 pub record ListCastRows : Type 0 where
-  pub empty : cast_slot (lists int64s) (lists int8s) Strict (list_of []) ≡ Ok (list_of [])
-  pub items : cast_slot (lists int64s) (lists strings) Strict (list_of (num 1 ∷ gone ∷ neg 2 ∷ [])) ≡ Ok (list_of (text_of (codes "1") ∷ gone ∷ text_of (codes "-2") ∷ []))
-  pub item_null : cast_slot (lists int64s) (lists int8s) NonStrict (list_of (num 300 ∷ num 3 ∷ [])) ≡ Ok (list_of (gone ∷ num 3 ∷ []))
-  pub item_refused : cast_slot (lists int64s) (lists int8s) Strict (list_of (num 3 ∷ num 300 ∷ [])) ≡ refused
-  pub nested : cast_slot (lists (lists booleans)) (lists (lists int8s)) Strict (list_of (list_of (yes ∷ []) ∷ gone ∷ [])) ≡ Ok (list_of (list_of (num 1 ∷ []) ∷ gone ∷ []))
+  pub empty : cast_slot (lists int64s) (lists int8s) Strict (list_slot []) ≡ Ok (list_slot [])
+  pub items : cast_slot (lists int64s) (lists strings) Strict (list_slot (num 1 ∷ gone ∷ neg 2 ∷ [])) ≡ Ok (list_slot (text_of (codes "1") ∷ gone ∷ text_of (codes "-2") ∷ []))
+  pub item_null : cast_slot (lists int64s) (lists int8s) NonStrict (list_slot (num 300 ∷ num 3 ∷ [])) ≡ Ok (list_slot (gone ∷ num 3 ∷ []))
+  pub item_refused : cast_slot (lists int64s) (lists int8s) Strict (list_slot (num 3 ∷ num 300 ∷ [])) ≡ refused
+  pub nested : cast_slot (lists (lists booleans)) (lists (lists int8s)) Strict (list_slot (list_slot (yes ∷ []) ∷ gone ∷ [])) ≡ Ok (list_slot (list_slot (num 1 ∷ []) ∷ gone ∷ []))
   pub rows : cast_slots int64s int8s NonStrict (num 1 ∷ gone ∷ num 300 ∷ []) ≡ Ok (num 1 ∷ gone ∷ gone ∷ [])
   pub rows_refused : cast_slots int64s int8s Strict (num 1 ∷ gone ∷ num 300 ∷ []) ≡ refused
   pub no_rows : cast_slots int64s int8s Strict [] ≡ Ok []

@@ -3,7 +3,7 @@ use Rattle.std.specs.Prelude.{◌≡◌, pos, negsuc, List, [], ◌∷◌, Some,
 use Rattle.px_value.specs.Datum.{Slot}
 use Rattle.px_operation.specs.Function.{is_null_slot, is_not_null_slot, not_slot, between_slot, in_slot, shifted, present_slots, exploded, slice_window, window_of}
 use Rattle.px_value.specs.Kind.{int64s}
-use Rattle.px_value.specs.Rows.{num, yes, no, gone, list_of}
+use Rattle.px_value.specs.Rows.{num, yes, no, gone, list_slot}
 use Rattle.px_value.specs.declared.closed_interval.ClosedInterval.TheVariants as ends
 
 -- the rows 1 null 3
@@ -46,7 +46,7 @@ pub record ColumnFunctionRows : Type 0 where
   pub shifted_none : shifted (pos 1) [] ≡ []
   pub present : present_slots three ≡ num 1 ∷ num 3 ∷ []
   pub present_none : present_slots (gone ∷ []) ≡ []
-  pub lists : exploded (list_of (num 1 ∷ gone ∷ []) ∷ list_of [] ∷ gone ∷ list_of (num 4 ∷ []) ∷ []) ≡ num 1 ∷ gone ∷ gone ∷ gone ∷ num 4 ∷ []
+  pub lists : exploded (list_slot (num 1 ∷ gone ∷ []) ∷ list_slot [] ∷ gone ∷ list_slot (num 4 ∷ []) ∷ []) ≡ num 1 ∷ gone ∷ gone ∷ gone ∷ num 4 ∷ []
   pub no_list : exploded [] ≡ []
   pub window : slice_window (pos 1) (Some (pos 2)) 4 ≡ (1, 2)
   pub window_from_end : slice_window (negsuc 1) (Some (pos 5)) 3 ≡ (1, 2)

@@ -131,9 +131,9 @@ kleene_or (Some false) (Some false) = truth false
 kleene_or _ _ = None
 
 -- the sum of two numbers, or one text followed by the other
-abbrev pub sum_slot : Kind → Slot → Slot → Slot
-sum_slot k (Some (text s)) (Some (text t)) = Some (text (s ++ t))
-sum_slot k a b = of_numbers (λ x y. number_in k (x +ℤ y)) a b
+abbrev pub plus_slot : Kind → Slot → Slot → Slot
+plus_slot k (Some (text s)) (Some (text t)) = Some (text (s ++ t))
+plus_slot k a b = of_numbers (λ x y. number_in k (x +ℤ y)) a b
 
 -- And of truths that may be missing, or of numbers bit by bit in two's complement
 abbrev pub and_slot : Kind → Slot → Slot → Slot
@@ -160,7 +160,7 @@ operated k Lt a b = compared (λ x y. is_lt (datum_cmp x y)) a b
 operated k LtEq a b = compared (λ x y. is_le (datum_cmp x y)) a b
 operated k Gt a b = compared (λ x y. is_gt (datum_cmp x y)) a b
 operated k GtEq a b = compared (λ x y. is_ge (datum_cmp x y)) a b
-operated k Plus a b = sum_slot k a b
+operated k Plus a b = plus_slot k a b
 operated k Minus a b = of_numbers (λ x y. number_in k (x -ℤ y)) a b
 operated k Multiply a b = of_numbers (λ x y. number_in k (x *ℤ y)) a b
 operated k Divide a b = of_numbers (divided int_div k) a b

@@ -3,7 +3,7 @@ use Rattle.std.specs.Prelude.{◌≡◌, true, false, List, [], ◌∷◌, codes
 use Rattle.px_value.specs.Datum.{Slot}
 use Rattle.px_value.specs.Kind.{booleans, int64s, uint8s, strings, lists}
 use Rattle.px_operation.specs.Reduction.{reduced_slot}
-use Rattle.px_value.specs.Rows.{num, neg, yes, no, gone, list_of, text_of}
+use Rattle.px_value.specs.Rows.{num, neg, yes, no, gone, list_slot, text_of}
 use Rattle.px_value.specs.declared.method.GroupByMethod.TheVariants.{Min, Max, Sum, First, Last, NUnique, Count, Implode}
 
 -- the rows null 2 1
@@ -20,7 +20,7 @@ pub record ReductionRows : Type 0 where
   pub distinct : reduced_slot NUnique int64s null_two_one ≡ num 3
   pub count : reduced_slot (Count true) int64s null_two_one ≡ num 3
   pub count_present : reduced_slot (Count false) int64s null_two_one ≡ num 2
-  pub implode : reduced_slot Implode int64s null_two_one ≡ list_of null_two_one
+  pub implode : reduced_slot Implode int64s null_two_one ≡ list_slot null_two_one
   pub min_none : reduced_slot Min int64s [] ≡ gone
   pub max_none : reduced_slot Max int64s [] ≡ gone
   pub sum_none : reduced_slot Sum int64s [] ≡ num 0
@@ -28,7 +28,7 @@ pub record ReductionRows : Type 0 where
   pub last_none : reduced_slot Last int64s [] ≡ gone
   pub distinct_none : reduced_slot NUnique int64s [] ≡ num 0
   pub count_none : reduced_slot (Count true) int64s [] ≡ num 0
-  pub implode_none : reduced_slot Implode int64s [] ≡ list_of []
+  pub implode_none : reduced_slot Implode int64s [] ≡ list_slot []
   pub min_nulls : reduced_slot Min int64s (gone ∷ gone ∷ []) ≡ gone
   pub sum_nulls : reduced_slot Sum int64s (gone ∷ gone ∷ []) ≡ num 0
   pub distinct_nulls : reduced_slot NUnique int64s (gone ∷ num 2 ∷ gone ∷ num 2 ∷ []) ≡ num 2
@@ -37,4 +37,4 @@ pub record ReductionRows : Type 0 where
   pub min_negative : reduced_slot Min int64s (num 1 ∷ neg 2 ∷ neg 1 ∷ []) ≡ neg 2
   pub sum_wider : reduced_slot Sum uint8s (num 200 ∷ num 100 ∷ []) ≡ num 300
   pub sum_truths : reduced_slot Sum booleans (yes ∷ gone ∷ yes ∷ []) ≡ num 2
-  pub first_list : reduced_slot First (lists int64s) (list_of [] ∷ []) ≡ list_of []
+  pub first_list : reduced_slot First (lists int64s) (list_slot [] ∷ []) ≡ list_slot []

@@ -5,14 +5,14 @@ use Rattle.px_value.specs.Kind.{Kind, booleans, int8s, int16s, int32s, int64s, u
 pub use Rattle.px_operation.specs.Wrap.{wrapped_in as wrapped}
 
 -- what a place adds to a sum: its number, 1 for true, else 0
-abbrev pub number_of : Slot → ℤ
-number_of (Some (integer z)) = z
-number_of (Some (boolean true)) = pos 1
-number_of _ = pos 0
+abbrev pub addend : Slot → ℤ
+addend (Some (integer z)) = z
+addend (Some (boolean true)) = pos 1
+addend _ = pos 0
 
 -- the whole sum of the present values
 abbrev pub total : List Slot → ℤ
-total xs = fold ◌+ℤ◌ (pos 0) (map number_of xs)
+total xs = fold ◌+ℤ◌ (pos 0) (map addend xs)
 
 -- the type of a sum, where values of the type can be summed: small integers are summed as Int64, truths as UInt32
 abbrev pub sum_kind : Kind → Option Kind

@@ -7,7 +7,7 @@ ghost use Rattle.px_value.specs.KindView.{kind_of};
 ghost use Rattle.px_value.specs.LentView.{slot_of_ref};
 ghost use Rattle.px_value.specs.View.{datum_of, slot_of};
 ghost use Rattle.px_operation.specs.Operate.{is_bitwise};
-ghost use Rattle.px_operation.specs.Operator.{operated, sum_slot};
+ghost use Rattle.px_operation.specs.Operator.{operated, plus_slot};
 
 mod bits;
 mod comparison;
@@ -42,7 +42,7 @@ fn sum(
 ) -> Px<Option<Value>>
     requires left { slot_fits (kind_of dtype.now) (slot_of_ref left) ≡ true }
     requires right { slot_fits (kind_of dtype.now) (slot_of_ref right) ≡ true }
-    ensures { AnswersBy slot_of result (Ok (sum_slot (kind_of dtype.now) (slot_of_ref left.entry) (slot_of_ref right.entry))) }
+    ensures { AnswersBy slot_of result (Ok (plus_slot (kind_of dtype.now) (slot_of_ref left.entry) (slot_of_ref right.entry))) }
 {
     match (left, right) {
         (Some(ValueRef::Text(s)), Some(ValueRef::Text(t))) => Ok(Some(appended(alloc, s, t)?)),

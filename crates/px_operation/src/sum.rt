@@ -5,7 +5,7 @@ ghost use Rattle.px_value.specs.Kind.{fits};
 ghost use Rattle.px_value.specs.KindView.{kind_of};
 ghost use Rattle.px_value.specs.LentView.{slot_of_ref};
 ghost use Rattle.px_value.specs.View.{datum_of};
-ghost use Rattle.px_operation.specs.Sum.{number_of, is_sum_kind};
+ghost use Rattle.px_operation.specs.Sum.{addend, is_sum_kind};
 ghost use Rattle.px_operation.specs.Wrap.{wrapped_in};
 
 use crate::wrap::wrapped;
@@ -22,7 +22,7 @@ pub fn wrapped_sum(dtype: &DataType, sum: i128) -> Value
 
 /// What a value adds to a sum: its number, 1 for true, else 0.
 pub fn number(value: Option<ValueRef<'_>>) -> i128
-    ensures { result ≡ number_of (slot_of_ref value.entry) }
+    ensures { result ≡ addend (slot_of_ref value.entry) }
 {
     match value {
         Some(ValueRef::Int(z)) => z,

@@ -50,7 +50,7 @@ fn run_words<L: Ledger, M: Ledger>(
 }
 
 // How the program ends where its words cannot be read.
-fn unread(error: &io::Error) -> Status
+fn unread_status(error: &io::Error) -> Status
     ensures memory { (result ≡ Status.OutOfMemory) ↔ (error_kind error.now ≡ ErrorKind.OutOfMemory) }
     ensures told { (result ≡ Status.OutOfMemory) ⊎ (result ≡ Status.Usage) }
 {
@@ -63,7 +63,7 @@ fn unread(error: &io::Error) -> Status
 fn main(rt: HostRuntime) -> ExitCode {
     let words = match read_words(&rt) {
         Ok(words) => words,
-        Err(e) => return ExitCode::from(unread(&e).number()),
+        Err(e) => return ExitCode::from(unread_status(&e).number()),
     };
     let status = run_words::<Brand, Brand>(&rt, &words, Blank::new(1), Blank::new(1));
     if status == Status::Usage {

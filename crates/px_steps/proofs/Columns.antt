@@ -3,7 +3,7 @@ use Rattle.std.proofs.Common.{◌≡◌, ℕ, ◌<◌, Bool, true, false, not, �
 use Rattle.std.specs.List.{list_all, list_any}
 use Rattle.std.proofs.lemmas.Bool.Decides.{nat_tests}
 use Rattle.std.proofs.lemmas.List.{length-map}
-use Rattle.px_value.specs.Series.{Series, slot_at}
+use Rattle.px_column.specs.Prelude.{Series, slot_at}
 use Rattle.px_value.specs.declared.error.PxError.TheVariants.{ShapeMismatch, InvalidOperation}
 use Rattle.px_value.specs.declared.error.InvalidWhy.TheVariants.{ListKey}
 use Rattle.px_frame.specs.Aggregate.{key_column}
@@ -11,7 +11,7 @@ use Rattle.px_frame.specs.Frame.{names_of, height_of, has_height, all_have_heigh
 use Rattle.px_frame.specs.Groups.{Group, group_of, grouped, groups_by, first_row, is_list}
 use Rattle.px_tree.specs.Tree.{Tree}
 use Rattle.px_steps.specs.Finds.{is_key}
-use Rattle.px_value.specs.Option.{each}
+use Rattle.px_column.specs.Option.{each}
 use Rattle.px_steps.specs.Plain.{key_values}
 use Rattle.px_value.proofs.FitLaws.{both}
 use Rattle.px_frame.proofs.LookLaws.{has_length}

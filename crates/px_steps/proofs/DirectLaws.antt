@@ -3,10 +3,9 @@ use Rattle.std.specs.Prelude.{◌≡◌, ℕ, ◌==◌, Bool, true, false, ◌&&
 use Rattle.std.proofs.Common.{sym, ◌∙◌, ap, append_assoc}
 use Rattle.std.specs.List.{flat_map, list_all}
 use Rattle.std.specs.Option.{option_map_or}
-use Rattle.px_value.specs.Kind.{Kind, booleans, int8s, int16s, int32s, int64s, uint8s, uint16s, uint32s, uint64s, strings, binaries, nulls, lists}
-use Rattle.px_value.specs.Option.{◌>>=◌, each}
-use Rattle.px_value.specs.Series.{Series}
-use Rattle.px_operation.specs.Sum.{sum_kind}
+use Rattle.px_column.specs.Prelude.{Kind, booleans, int8s, int16s, int32s, int64s, uint8s, uint16s, uint32s, uint64s, strings, binaries, nulls, lists, Series}
+use Rattle.px_column.specs.Option.{◌>>=◌, each}
+use Rattle.px_column.specs.Sum.{sum_kind}
 use Rattle.px_value.specs.declared.error.PxError.{PxError}
 use Rattle.px_value.specs.declared.error.PxError.TheVariants.{Duplicate, InvalidOperation}
 use Rattle.px_value.specs.declared.error.InvalidWhy.TheVariants.{ListKey}

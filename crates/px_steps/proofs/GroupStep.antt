@@ -5,11 +5,8 @@ use Rattle.std.specs.List.{Contains, flat_map, list_all, list_any}
 use Rattle.std.specs.Option.{option_map_or}
 use Rattle.std.specs.Result.{result_ok}
 use Rattle.std.proofs.lemmas.Bool.Decides.{nat_tests}
-use Rattle.px_value.specs.Answer.{Answers, Refuses}
-use Rattle.px_value.specs.Datum.{Slot}
-use Rattle.px_value.specs.Kind.{Kind, is_list_kind}
-use Rattle.px_value.specs.Option.{each}
-use Rattle.px_value.specs.Series.{Series}
+use Rattle.px_column.specs.Prelude.{Answers, Refuses, Slot, Kind, is_list_kind, Series}
+use Rattle.px_column.specs.Option.{each}
 use Rattle.px_value.specs.declared.error.PxError.{PxError}
 use Rattle.px_value.specs.declared.error.PxError.TheVariants.{Duplicate, InvalidOperation, ComputeError, ShapeMismatch, OutOfMemory}
 use Rattle.px_value.specs.declared.error.InvalidWhy.TheVariants.{ListKey}

@@ -1,7 +1,7 @@
 -- A group step that is run is one of expressions that have nodes, without chunks.
 use Rattle.std.proofs.Common.{◌≡◌, ℕ, Bool, true, false, ◌&&◌, List, [], ◌∷◌, Option, Some, None, Result, refl, sym, ◌∙◌, ap, subst}
 use Rattle.std.specs.List.{list_all}
-use Rattle.px_value.specs.Series.{Series}
+use Rattle.px_column.specs.Prelude.{Series}
 use Rattle.px_value.specs.declared.error.PxError.{PxError}
 use Rattle.px_tree.specs.Built.{is_built_tree}
 use Rattle.px_tree.specs.Tree.{Tree}

@@ -1,13 +1,10 @@
 -- Expressions on the frames of groups: what is known of them on the whole frame is known of them there.
 use Rattle.std.proofs.Common.{◌≡◌, inl, inr, ℕ, zero, suc, ◌≤◌, ◌^◌, Bool, true, List, [], ◌∷◌, ◌++◌, Option, Some, None, Result, Ok, Err, length, option_map, option_and_then, map, max, sum, nat_lt, slice_get, refl, sym, ◌∙◌, ap, subst, arith, if◌then◌else◌}
 use Rattle.std.specs.List.{flat_map, list_all}
-use Rattle.px_value.specs.Answer.{Answers, AnswersBy, Refuses}
-use Rattle.px_value.specs.Datum.{Slot}
+use Rattle.px_column.specs.Prelude.{Answers, AnswersBy, Refuses, Slot, Kind, lists, slot_fits, slots_fit, Series}
 use Rattle.px_column.specs.Column.{made}
-use Rattle.px_value.specs.Kind.{Kind, lists, slot_fits, slots_fit}
-use Rattle.px_value.specs.Option.{each}
-use Rattle.px_operation.specs.Reduction.{reduced_kind}
-use Rattle.px_value.specs.Series.{Series}
+use Rattle.px_column.specs.Option.{each}
+use Rattle.px_column.specs.Reduction.{reduced_kind}
 use Rattle.px_value.specs.declared.error.PxError.{PxError}
 use Rattle.px_value.specs.declared.error.PxError.TheVariants.{OutOfMemory, ColumnNotFound, Duplicate, InvalidOperation, ComputeError, OutOfBounds, ShapeMismatch, SchemaMismatch}
 use Rattle.px_value.specs.declared.error.InvalidWhy.TheVariants.{Types}

@@ -5,7 +5,7 @@ use Rattle.std.proofs.lemmas.List.{at_drop_more}
 use Rattle.std.proofs.lemmas.List.Sums.{sum_by-cons}
 use Rattle.px_value.specs.declared.error.PxError.{PxError}
 use Rattle.px_steps.specs.Finds.{Lacks}
-use Rattle.px_value.specs.Option.{each}
+use Rattle.px_column.specs.Option.{each}
 use Rattle.px_document.specs.Form.{with_front}
 use Rattle.px_steps.specs.Meets.{IsFirst}
 use Rattle.px_steps.specs.Plain.{greatest}

@@ -2,11 +2,8 @@
 use Rattle.std.proofs.Common.{◌≡◌, ℕ, Bool, true, false, cond, List, [], ◌∷◌, ◌++◌, Option, Some, None, Result, Ok, Err, length, map, pos, refl, sym, ◌∙◌, ap, option_map}
 use Rattle.std.specs.List.{find}
 use Rattle.std.proofs.lemmas.List.{length-map}
-use Rattle.px_value.specs.Answer.{Answers, Refuses}
-use Rattle.px_value.specs.Datum.{integer}
-use Rattle.px_value.specs.Kind.{Kind, uint32s}
-use Rattle.px_value.specs.Series.{Series, slot_at}
-use Rattle.px_operation.specs.Sum.{sum_kind, summed}
+use Rattle.px_column.specs.Prelude.{Answers, Refuses, integer, Kind, uint32s, Series, slot_at}
+use Rattle.px_column.specs.Sum.{sum_kind, summed}
 use Rattle.px_value.specs.declared.error.PxError.{PxError}
 use Rattle.px_value.specs.declared.error.PxError.TheVariants.{ColumnNotFound, Duplicate, InvalidOperation, ComputeError, OutOfBounds, ShapeMismatch, SchemaMismatch, OutOfMemory}
 use Rattle.px_value.specs.declared.error.InvalidWhy.TheVariants.{Types}

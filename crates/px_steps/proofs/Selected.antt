@@ -4,12 +4,10 @@ use Rattle.std.specs.Prelude.{IfOk, is_none, is_some}
 use Rattle.std.specs.List.{Contains, filter_map, find, flat_map, list_all, list_any}
 use Rattle.std.specs.Option.{option_map_or}
 use Rattle.std.specs.Result.{result_ok}
-use Rattle.px_value.specs.Answer.{Answers, AnswersBy, Refuses}
-use Rattle.px_value.specs.Kind.{Kind}
-use Rattle.px_value.specs.Option.{each}
-use Rattle.px_operation.specs.Reduction.{reduced_kind}
-use Rattle.px_value.specs.Result.{◌>>=◌}
-use Rattle.px_value.specs.Series.{Series}
+use Rattle.px_column.specs.Prelude.{Answers, AnswersBy, Refuses, Kind, Series}
+use Rattle.px_column.specs.Option.{each}
+use Rattle.px_column.specs.Reduction.{reduced_kind}
+use Rattle.px_column.specs.Result.{◌>>=◌}
 use Rattle.px_value.specs.declared.error.PxError.{PxError}
 use Rattle.px_value.specs.declared.error.PxError.TheVariants.{ColumnNotFound, Duplicate, InvalidOperation, ComputeError, OutOfBounds, ShapeMismatch, SchemaMismatch, OutOfMemory}
 use Rattle.px_value.specs.declared.error.ComputeWhy.TheVariants.{TooLong}

@@ -3,10 +3,8 @@
 use Rattle.std.specs.Prelude.{ℕ, pos, Bool, true, false, ◌&&◌, List, [], ◌∷◌, ◌++◌, Option, Some, None, map, option_map, option_and_then, replicate}
 use Rattle.std.specs.List.{flat_map, list_all}
 use Rattle.std.specs.Option.{option_map_or}
-use Rattle.px_value.specs.Datum.{integer, Slot}
-use Rattle.px_value.specs.Kind.{Kind, lists, uint32s}
-use Rattle.px_value.specs.Series.{Series}
-use Rattle.px_operation.specs.Sum.{sum_kind, summed}
+use Rattle.px_column.specs.Prelude.{integer, Slot, Kind, lists, uint32s, Series}
+use Rattle.px_column.specs.Sum.{sum_kind, summed}
 use Rattle.px_value.specs.declared.error.PxError.{PxError}
 use Rattle.px_value.specs.declared.error.PxError.TheVariants.{ColumnNotFound, Duplicate, InvalidOperation, ComputeError}
 use Rattle.px_value.specs.declared.error.InvalidWhy.TheVariants.{ListKey, Types}
@@ -21,7 +19,7 @@ use Rattle.px_tree.specs.Shape.{is_unit, name_of}
 use Rattle.px_tree.specs.Tree.{Tree, column, agg, len}
 use Rattle.px_tree.specs.declared.context.Context.{Context}
 use Rattle.px_tree.specs.declared.context.Context.TheVariants.{Default, Aggregation}
-use Rattle.px_value.specs.Option.{each}
+use Rattle.px_column.specs.Option.{each}
 use Rattle.px_document.specs.Form.{with_front}
 use Rattle.px_steps.specs.Plain.{first_of, key_values, no_key_refusal}
 use Rattle.px_tree.specs.Step.{PlainStep, group}

@@ -2,9 +2,7 @@
 use Rattle.std.specs.Prelude.{◌≡◌, ◌⊎◌, ℕ, ◌^◌, ◌≤◌, Bool, true, ◌&&◌, not, List, [], ◌∷◌, ◌++◌, Option, Some, Result, Ok, Err, map, if◌then◌else◌}
 use Rattle.std.specs.List.{Contains, flat_map}
 use Rattle.std.specs.Option.{option_map_or}
-use Rattle.px_value.specs.Datum.{Slot}
-use Rattle.px_value.specs.Kind.{Kind, lists, slot_fits}
-use Rattle.px_value.specs.Series.{Series}
+use Rattle.px_column.specs.Prelude.{Slot, Kind, lists, slot_fits, Series}
 use Rattle.px_value.specs.declared.error.PxError.{PxError}
 use Rattle.px_value.specs.declared.error.PxError.TheVariants.{ComputeError, Duplicate, InvalidOperation, OutOfMemory}
 use Rattle.px_value.specs.declared.error.InvalidWhy.TheVariants.{ListKey}

@@ -3,11 +3,9 @@ use Rattle.std.specs.Prelude.{◌≡◌, ℕ, ◌^◌, ◌<◌, not, ◌==◌, L
 use Rattle.std.specs.List.{flat_map, filter_map, list_any, sum_by}
 use Rattle.std.specs.Option.{option_map_or}
 use Rattle.std.specs.Result.{result_ok}
-use Rattle.px_value.specs.Datum.{Slot}
-use Rattle.px_value.specs.Kind.{Kind, lists}
-use Rattle.px_operation.specs.Operator.{is_boolean_kind}
-use Rattle.px_value.specs.Option.{◌>>=◌, each}
-use Rattle.px_value.specs.Series.{Series, slot_at}
+use Rattle.px_column.specs.Prelude.{Slot, Kind, lists, Series, slot_at}
+use Rattle.px_column.specs.Operator.{is_boolean_kind}
+use Rattle.px_column.specs.Option.{◌>>=◌, each}
 use Rattle.px_value.specs.declared.error.PxError.{PxError}
 use Rattle.px_value.specs.declared.error.PxError.TheVariants.{Duplicate, InvalidOperation, ComputeError, ShapeMismatch, SchemaMismatch}
 use Rattle.px_value.specs.declared.error.InvalidWhy.TheVariants.{ListKey}

@@ -1,8 +1,8 @@
 //! A group step: one row for each part of a frame by keys.
 ghost use Rattle.std.specs.Prelude.{◌≡◌, ◌+◌, ◌<◌, ◌≤◌, ◌^◌, ◌++◌, ◌∷◌, [], None, Ok, Some, IfOk, OnOk, length, map, true};
 ghost use Rattle.std.specs.List.{flat_map, list_all};
-ghost use Rattle.px_value.specs.Answer.{Answers};
-ghost use Rattle.px_value.specs.Option.{each};
+ghost use Rattle.px_column.specs.Prelude.{Answers};
+ghost use Rattle.px_column.specs.Option.{each};
 ghost use Rattle.px_tree.specs.Built.{is_built_tree};
 ghost use Rattle.px_frame.specs.Aggregate.{has_row};
 ghost use Rattle.px_frame.specs.External.{alone};
@@ -23,8 +23,8 @@ ghost use Rattle.px_steps.specs.Meets.{Meets, MeetsBy};
 ghost use Rattle.px_steps.specs.Plain.{agg_refusals, aggregated_on, columns_on, greatest, key_on, key_refusals, repeat_refusal, step_refusals};
 ghost use Rattle.px_tree.specs.Step.{group};
 
-use crate::aggregated::aggregated;
-use crate::planned::{add_names, cell_on, planned};
+use crate::aggregation::aggregate;
+use crate::planning::{add_names, cell_on, plan_expr};
 use indexmap::IndexSet;
 use px_column::{Column, ComputeWhy, InvalidWhy, Px, PxError, Steps};
 use px_frame::{DataFrame, GroupPositions, SchemaRef, group_by, key_rows, spread};
@@ -89,7 +89,7 @@ fn distinct_names(alloc: Global, keys: &[Expr], aggs: &[Expr]) -> Px<()>
 }
 
 /// The names and types of a frame, or the first refusal of the step over them.
-fn accepted_scope(alloc: Global, frame: &DataFrame, keys: &[Expr], aggs: &[Expr]) -> Px<SchemaRef>
+fn accept_step(alloc: Global, frame: &DataFrame, keys: &[Expr], aggs: &[Expr]) -> Px<SchemaRef>
     requires keys { list_all is_built_tree (map tree keys.now) ≡ true }
     requires aggs { list_all is_built_tree (map tree aggs.now) ≡ true }
     ensures { MeetsBy (λ s. s.value) result (step_refusals (group (map tree keys.now) (map tree aggs.now) None) (alone frame.now)) (Some (map column_field frame.now)) }
@@ -121,7 +121,7 @@ fn key_column<L: Ledger, M: Ledger>(
     ensures state { state.new ≡ state.old }
     ensures grouped { groupings.new ≡ groupings.old }
 {
-    let node = planned(alloc, key, schema, Context::Default)?;
+    let node = plan_expr(alloc, key, schema, Context::Default)?;
     let cell = cell_on(alloc, frame, &node, state, kernels, groupings)?;
     spread(alloc, cell, frame.height())
 }
@@ -174,7 +174,7 @@ fn push_aggregations<L: Ledger, M: Ledger>(
     ensures grouped { groupings.new ≡ groupings.old }
 {
     for expr in aggs {
-        columns.push(aggregated(
+        columns.push(aggregate(
             alloc, frame, groups, expr, schema, state, kernels, groupings,
         )?)?;
     }
@@ -258,7 +258,7 @@ pub(crate) fn group_step<L: Ledger, M: Ledger>(
     ensures grouped { OnOk result (groupings.new ≡ groupings.old + 1) }
     ensures once { groupings.new ≤ groupings.old + 1 }
 {
-    let schema = accepted_scope(alloc, frame, keys, aggs)?;
+    let schema = accept_step(alloc, frame, keys, aggs)?;
     let by = key_columns(alloc, frame, keys, &schema, state, kernels, groupings)?;
     grouped_frame(alloc, frame, &by, aggs, &schema, state, kernels, groupings)
 }

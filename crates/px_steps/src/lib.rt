@@ -1,9 +1,9 @@
 //! Steps over frames: run one after another, and as the command `run` over the ends of a process.
 #![tactic(auto)]
 
-mod aggregated;
+mod aggregation;
 mod group_step;
-mod planned;
+mod planning;
 mod reply;
 pub mod run;
 mod runner;

@@ -31,7 +31,7 @@ fn bad_document_line() -> &'static [u8]
 }
 
 // Writes the text, and tells `done` where all of it was taken.
-fn written<K: Sink>(sink: &mut K, text: &[u8], done: Status) -> Status
+fn write_text<K: Sink>(sink: &mut K, text: &[u8], done: Status) -> Status
     ensures ends { (result ≡ done) × TakesAll text.now (K.taken sink.old) (K.taken sink.new)
         ⊎ (result ≡ Status.WriteFault) × TakesPart text.now (K.taken sink.old) (K.taken sink.new)
         × Rose (K.faults sink.old) (K.faults sink.new) }
@@ -64,9 +64,9 @@ fn answer<K: Sink, L: Ledger, M: Ledger>(
         groupings.new ≡ groupings.old + groupings_of doc.steps }
 {
     match reply_to(alloc, bytes, kernels, groupings) {
-        Ok(Reply::Frame(text)) => written(sink, text.as_slice(), Status::Done),
-        Ok(Reply::Refusal(text)) => written(sink, text.as_slice(), Status::Refused),
-        Ok(Reply::BadDocument) => written(sink, bad_document_line(), Status::BadDocument),
+        Ok(Reply::Frame(text)) => write_text(sink, text.as_slice(), Status::Done),
+        Ok(Reply::Refusal(text)) => write_text(sink, text.as_slice(), Status::Refused),
+        Ok(Reply::BadDocument) => write_text(sink, bad_document_line(), Status::BadDocument),
         Err(_) => Status::OutOfMemory,
     }
 }
@@ -102,7 +102,7 @@ fn run_command<S: Source, K: Sink, L: Ledger, M: Ledger>(
 {
     match read_all(alloc, source) {
         Ok(bytes) => answer(alloc, &bytes, sink, kernels, groupings),
-        Err(ReadEnd::TooLong) => written(sink, bad_document_line(), Status::BadDocument),
+        Err(ReadEnd::TooLong) => write_text(sink, bad_document_line(), Status::BadDocument),
         Err(ReadEnd::Failed) => Status::ReadFault,
         Err(ReadEnd::OutOfMemory) => Status::OutOfMemory,
     }

@@ -1,7 +1,7 @@
 //! A select step: the columns of some expressions, side by side.
 ghost use Rattle.std.specs.Prelude.{◌≡◌, [], Some, IfOk, IfErr, OnOk, map, true};
 ghost use Rattle.std.specs.List.{flat_map, list_all};
-ghost use Rattle.px_value.specs.Option.{each};
+ghost use Rattle.px_column.specs.Option.{each};
 ghost use Rattle.px_tree.specs.Built.{is_built_tree};
 ghost use Rattle.px_expr.specs.NodeView.{plan_of};
 ghost use Rattle.px_expr.specs.Plan.{planned_over};
@@ -17,7 +17,7 @@ ghost use Rattle.px_steps.specs.Meets.{Meets, MeetsBy};
 ghost use Rattle.px_steps.specs.Plain.{named_value, repeat_refusal};
 ghost use Rattle.px_tree.specs.Step.{select};
 
-use crate::planned::{add_names, cell_on, planned};
+use crate::planning::{add_names, cell_on, plan_expr};
 use indexmap::IndexSet;
 use px_column::{Px, Steps};
 use px_expr::PhysExpr;
@@ -30,14 +30,14 @@ use std::sync::ledger::Ledger;
 
 /// The nodes of some expressions over a schema, or the first refusal from the left.
 #[tactic(auto, using(crate::proofs::Named::IsFirst_append))]
-fn all_planned(alloc: Global, exprs: &[Expr], schema: &SchemaRef) -> Px<Vec<PhysExpr>>
+fn plan_all(alloc: Global, exprs: &[Expr], schema: &SchemaRef) -> Px<Vec<PhysExpr>>
     requires { list_all is_built_tree (map tree exprs.now) ≡ true }
     ensures { MeetsBy (λ v. map plan_of v.items) result (flat_map (λ t. refusals_of t schema.now.value Default) (map tree exprs.now))
         (Some (map (planned_over schema.now.value) (map tree exprs.now))) }
 {
     let mut nodes = Vec::with_capacity(alloc, exprs.len())?;
     for expr in exprs {
-        nodes.push(planned(alloc, expr, schema, Context::Default)?)?;
+        nodes.push(plan_expr(alloc, expr, schema, Context::Default)?)?;
     }
     Ok(nodes)
 }
@@ -88,7 +88,7 @@ pub(crate) fn select_step<L: Ledger, M: Ledger>(
     ensures grouped { groupings.new ≡ groupings.old }
 {
     let schema = Rc::new(alloc, frame.schema(alloc)?)?;
-    let nodes = all_planned(alloc, exprs, &schema)?;
+    let nodes = plan_all(alloc, exprs, &schema)?;
     distinct_names(alloc, exprs)?;
     let cells = cells_on(alloc, frame, &nodes, state, kernels, groupings)?;
     assemble(alloc, cells)

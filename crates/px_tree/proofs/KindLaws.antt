@@ -1,10 +1,10 @@
 -- Laws: an expression that is not refused has a type.
 use Rattle.std.proofs.Common.{◌≡◌, List, [], ◌∷◌, ◌++◌, Option, Some, None, Result, Ok, Err, option_map, refl, sym, ◌∙◌, ap}
 use Rattle.std.specs.Prelude.{is_none}
-use Rattle.px_value.specs.Kind.{Kind}
-use Rattle.px_operation.specs.Operator.{operator_kind}
-use Rattle.px_value.specs.Option.{◌>>=◌}
-use Rattle.px_operation.specs.Reduction.{reduced_kind}
+use Rattle.px_column.specs.Prelude.{Kind}
+use Rattle.px_column.specs.Operator.{operator_kind}
+use Rattle.px_column.specs.Option.{◌>>=◌}
+use Rattle.px_column.specs.Reduction.{reduced_kind}
 use Rattle.px_value.specs.declared.error.PxError.{PxError}
 use Rattle.px_tree.specs.Shape.{is_unit}
 use Rattle.px_tree.specs.Tree.{Tree, called, Trees, no_trees, one_tree, column, literal, alias, binary, ternary, cast, function, filter, slice, gather, sort, sort_by, agg, len, window}

@@ -1,8 +1,8 @@
 -- Core expressions: columns, single literals, aliases, comparisons, sums, differences and products of integers, And and
 -- Or of truths, ternaries, filters, slices by literals, lengths, reductions to one value, and windows of these.
 use Rattle.std.specs.Prelude.{Bool, true, false, ◌&&◌, not, Option, Some, None}
-use Rattle.px_value.specs.Kind.{Kind}
-use Rattle.px_operation.specs.Operator.{is_comparison, is_integer_kind, is_boolean_kind}
+use Rattle.px_column.specs.Prelude.{Kind}
+use Rattle.px_column.specs.Operator.{is_comparison, is_integer_kind, is_boolean_kind}
 use Rattle.px_value.specs.declared.operator.Operator.{Operator}
 use Rattle.px_value.specs.declared.operator.Operator.TheVariants.{Plus, Minus, Multiply, And, Or}
 use Rattle.px_tree.specs.Shape.{is_unit, is_single, is_implode}

@@ -1,6 +1,6 @@
 -- How often kernels run, and rows are grouped, while an expression is evaluated.
 use Rattle.std.specs.Prelude.{ℕ, ◌+◌, ◌*◌, Bool, true, false, ◌&&◌, ◌||◌, List, [], ◌∷◌, ◌++◌, Option, Some, None, Result, Ok, length, if◌then◌else◌}
-use Rattle.px_value.specs.Series.{Series}
+use Rattle.px_column.specs.Prelude.{Series}
 use Rattle.px_value.specs.declared.cast_options.CastOptions.TheVariants.{Strict}
 use Rattle.px_value.specs.declared.error.PxError.{PxError}
 use Rattle.px_value.specs.declared.sort_options.SortOptions.{SortOptions}

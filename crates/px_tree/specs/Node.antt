@@ -1,16 +1,14 @@
 -- What one node makes of its inputs' cells: a cell, or the node's own fault.
 use Rattle.std.specs.Prelude.{ℕ, ◌+◌, ◌-◌, ℤ, pos, negsuc, ◌+ℤ◌, ◌-ℤ◌, Bool, true, false, ◌&&◌, not, List, [], ◌∷◌, Option, Some, None, Result, Ok, Err, length, map, filter, reverse, nat_lt, if◌then◌else◌}
 use Rattle.std.specs.List.{list_all, range_with_len, zip}
-use Rattle.px_operation.specs.Cast.{cast_slot, cast_slots}
+use Rattle.px_column.specs.Cast.{cast_slot, cast_slots}
 use Rattle.px_column.specs.Column.{null_count}
-use Rattle.px_value.specs.Datum.{boolean, integer, Slot}
-use Rattle.px_operation.specs.Function.{is_null_slot, is_not_null_slot, not_slot, between_slot, in_slot, shifted, present_slots, exploded, window_of}
-use Rattle.px_value.specs.Kind.{Kind, fits}
-use Rattle.px_operation.specs.Operator.{operated}
-use Rattle.px_value.specs.Order.{sorted_rows, sort_keys}
-use Rattle.px_operation.specs.Reduction.{reduced_slot, count_slot}
-use Rattle.px_value.specs.Result.{◌>>=◌}
-use Rattle.px_value.specs.Series.{slot_at}
+use Rattle.px_column.specs.Prelude.{boolean, integer, Slot, Kind, fits, slot_at}
+use Rattle.px_column.specs.Function.{is_null_slot, is_not_null_slot, not_slot, between_slot, in_slot, shifted, present_slots, exploded, window_of}
+use Rattle.px_column.specs.Operator.{operated}
+use Rattle.px_column.specs.Order.{sorted_rows, sort_keys}
+use Rattle.px_column.specs.Reduction.{reduced_slot, count_slot}
+use Rattle.px_column.specs.Result.{◌>>=◌}
 use Rattle.px_value.specs.declared.cast_options.CastOptions.{CastOptions}
 use Rattle.px_value.specs.declared.error.PxError.{PxError}
 use Rattle.px_value.specs.declared.error.PxError.TheVariants.{InvalidOperation, ComputeError, OutOfBounds}

@@ -1,10 +1,9 @@
 -- Expressions whose values on the chunks of a group can be merged.
 use Rattle.std.specs.Prelude.{Bool, true, false, ◌&&◌, List, [], ◌∷◌, Some, is_some}
 use Rattle.std.specs.List.{flat_map}
-use Rattle.px_value.specs.Datum.{list, Slot, slots, items}
-use Rattle.px_value.specs.Kind.{Kind}
-use Rattle.px_operation.specs.Reduction.{reduced_slot}
-use Rattle.px_operation.specs.Sum.{summed}
+use Rattle.px_column.specs.Prelude.{list, Slot, slots, items, Kind}
+use Rattle.px_column.specs.Reduction.{reduced_slot}
+use Rattle.px_column.specs.Sum.{summed}
 use Rattle.px_value.specs.declared.method.GroupByMethod.{GroupByMethod}
 use Rattle.px_value.specs.declared.method.GroupByMethod.TheVariants.{Sum, NUnique, Count, Implode}
 use Rattle.px_tree.specs.Shape.{is_single}

@@ -5,7 +5,7 @@ use Rattle.std.specs.Option.{option_map_or}
 use Rattle.px_frame.specs.Cell.{count_of}
 use Rattle.px_frame.specs.External.{Frame}
 use Rattle.px_tree.specs.Tree.{Tree, Trees, Order, no_trees, one_tree, no_order, ordered, column, literal, alias, binary, ternary, cast, function, filter, slice, gather, sort, sort_by, agg, len, window}
-use Rattle.px_tree.specs.Value.{value_on, part_frames}
+use Rattle.px_tree.specs.Value.{value_on, window_frames}
 
 -- the number of values, none where there is no value
 abbrev pub count_on : Tree → Frame → ℕ
@@ -34,7 +34,7 @@ abbrev mutual
   size_on len frames = counts_on len frames
   size_on (window f keys order mapping) frames =
       max (counts_on (window f keys order mapping) frames)
-      (max (size_on f (flat_map (part_frames keys order) frames)) (max (sizes_on keys frames) (order_size_on order frames)))
+      (max (size_on f (flat_map (window_frames keys order) frames)) (max (sizes_on keys frames) (order_size_on order frames)))
 
   -- the greatest such number of some expressions
   pub sizes_on : Trees → List Frame → ℕ

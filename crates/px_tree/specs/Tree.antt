@@ -1,8 +1,6 @@
 -- What contracts see of an expression: its tree, with no memory in it.
 use Rattle.std.specs.Prelude.{ℕ, ℤ, Bool, List, [], ◌∷◌}
-use Rattle.px_value.specs.Datum.{Slot}
-use Rattle.px_value.specs.Kind.{Kind}
-use Rattle.px_value.specs.Series.{Series}
+use Rattle.px_column.specs.Prelude.{Slot, Kind, Series}
 use Rattle.px_value.specs.declared.cast_options.CastOptions.{CastOptions}
 use Rattle.px_value.specs.declared.method.GroupByMethod.{GroupByMethod}
 use Rattle.px_value.specs.declared.operator.Operator.{Operator}

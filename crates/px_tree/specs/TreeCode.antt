@@ -3,10 +3,10 @@
 use Rattle.std.specs.Prelude.{◌≡◌, ◌⊎◌, ℕ, zero, suc, ℤ, Bool, List, [], ◌∷◌, refl, Option, Some, None}
 use Rattle.std.proofs.Common.{◌∙◌, ap, inl, inr}
 use Rattle.std.specs.Coded.{Coded, code_by, coded×, coded⊎, coded_list, coded_ℕ, coded_ℤ, coded_bool, coded_option}
-use Rattle.px_value.specs.Datum.{Slot}
-use Rattle.px_value.specs.DatumCode.{coded_datum}
-use Rattle.px_value.specs.Kind.{Kind, coded_kind}
-use Rattle.px_value.specs.Series.{Series, coded_series}
+use Rattle.px_column.specs.Prelude.{Slot, Kind, Series}
+use Rattle.px_column.specs.DatumCode.{coded_datum}
+use Rattle.px_column.specs.Kind.{coded_kind}
+use Rattle.px_column.specs.Series.{coded_series}
 use Rattle.px_value.specs.declared.cast_options.CastOptions.{CastOptions}
 use Rattle.px_value.specs.declared.method.GroupByMethod.{GroupByMethod}
 use Rattle.px_value.specs.declared.operator.Operator.{Operator}

@@ -3,11 +3,11 @@
 -- the frame.
 use Rattle.std.specs.Prelude.{ℕ, Bool, true, false, ◌&&◌, ◌||◌, not, List, [], ◌∷◌, ◌++◌, Option, Some, None, Result, Ok, Err, find, option_map, is_none, if◌then◌else◌}
 use Rattle.std.specs.List.{list_any}
-use Rattle.px_operation.specs.Cast.{cast_kind}
-use Rattle.px_value.specs.Option.{◌>>=◌}
-use Rattle.px_value.specs.Kind.{Kind, booleans, int32s, int64s, uint32s, nulls, lists, kind_eq, is_list_kind}
-use Rattle.px_operation.specs.Operator.{operator_kind, is_integer_kind, is_boolean_kind, kind_where}
-use Rattle.px_operation.specs.Reduction.{reduced_kind}
+use Rattle.px_column.specs.Cast.{cast_kind}
+use Rattle.px_column.specs.Option.{◌>>=◌}
+use Rattle.px_column.specs.Prelude.{Kind, booleans, int32s, int64s, uint32s, nulls, lists, kind_eq, is_list_kind}
+use Rattle.px_column.specs.Operator.{operator_kind, is_integer_kind, is_boolean_kind, kind_where}
+use Rattle.px_column.specs.Reduction.{reduced_kind}
 use Rattle.px_value.specs.declared.error.PxError.{PxError}
 use Rattle.px_value.specs.declared.error.PxError.TheVariants.{ColumnNotFound, InvalidOperation, ComputeError, SchemaMismatch}
 use Rattle.px_value.specs.declared.error.InvalidWhy.TheVariants.{WindowOnGroups, AggAboveImplode, ScalarOnGroups, ListKey, RangeType, Types}

@@ -3,9 +3,9 @@ use Rattle.std.specs.Prelude.{ℕ, Bool, not, List, [], ◌∷◌, ◌++◌, Opt
 use Rattle.std.specs.List.{flat_map, list_any, zip}
 use Rattle.std.specs.Option.{option_map_or}
 use Rattle.std.specs.Result.{result_ok}
-use Rattle.px_value.specs.Kind.{Kind, nulls}
-use Rattle.px_value.specs.Option.{◌>>=◌, each}
-use Rattle.px_operation.specs.Reduction.{count_slot}
+use Rattle.px_column.specs.Prelude.{Kind, nulls}
+use Rattle.px_column.specs.Option.{◌>>=◌, each}
+use Rattle.px_column.specs.Reduction.{count_slot}
 use Rattle.px_value.specs.declared.error.PxError.{PxError}
 use Rattle.px_frame.specs.Cell.{Cell, unit, rows}
 use Rattle.px_frame.specs.External.{Frame, height, look_in, scope_of, rows_of_frame}
@@ -137,8 +137,8 @@ abbrev pub parts_on : Trees → Order → Frame → List (List ℕ)
 parts_on keys order frame = parts_in (window_parts (named_on keys frame) (order_on order frame) frame)
 
 -- the frames of those parts
-abbrev pub part_frames : Trees → Order → Frame → List Frame
-part_frames keys order frame = map (rows_of_frame frame) (parts_on keys order frame)
+abbrev pub window_frames : Trees → Order → Frame → List Frame
+window_frames keys order frame = map (rows_of_frame frame) (parts_on keys order frame)
 
 abbrev mutual
   -- the faults of an expression: its inputs', and its own where all of them have values. A window's function is evaluated

@@ -2,9 +2,8 @@
 use Rattle.std.specs.Prelude.{pos, Option, Some, None}
 use Rattle.std.specs.declared.alloc.Global.{Global}
 use Rattle.std.specs.declared.rc.Rc.{Rc}
-use Rattle.px_value.specs.Datum.{boolean, integer, text, bytes}
+use Rattle.px_column.specs.Prelude.{boolean, integer, text, bytes, kind_of}
 use Rattle.px_value.specs.Kind as k
-use Rattle.px_value.specs.KindView.{kind_of}
 use Rattle.px_value.specs.declared.method.GroupByMethod.TheVariants as method
 use Rattle.px_value.specs.declared.sort_options.SortOptions.{SortOptions}
 use Rattle.px_tree.specs.Tree as t

@@ -1,6 +1,6 @@
 //! Copies of expressions.
 ghost use Rattle.std.specs.Prelude.{◌≡◌, Ok};
-ghost use Rattle.px_value.specs.Answer.{AnswersBy};
+ghost use Rattle.px_column.specs.Prelude.{AnswersBy};
 ghost use Rattle.px_tree.specs.View.{tree, trees, agg_tree, order_tree};
 
 use crate::expr::{AggExpr, Expr, Exprs};

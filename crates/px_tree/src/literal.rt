@@ -1,7 +1,6 @@
 //! Literals.
 ghost use Rattle.std.specs.Prelude.{◌≡◌, Ok};
-ghost use Rattle.px_value.specs.Answer.{AnswersBy};
-ghost use Rattle.px_value.specs.KindView.{kind_of};
+ghost use Rattle.px_column.specs.Prelude.{AnswersBy, kind_of};
 ghost use Rattle.px_tree.specs.Shape.{is_single};
 ghost use Rattle.px_tree.specs.Typing.{is_range_kind, literal_kind};
 ghost use Rattle.px_tree.specs.View.{literal_of};

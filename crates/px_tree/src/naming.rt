@@ -1,6 +1,6 @@
 //! The names of expressions' results.
 ghost use Rattle.std.specs.Prelude.{◌≡◌, Ok};
-ghost use Rattle.px_value.specs.Answer.{Answers};
+ghost use Rattle.px_column.specs.Prelude.{Answers};
 ghost use Rattle.px_tree.specs.Shape.{literal_name, name_of, first_name};
 ghost use Rattle.px_tree.specs.View.{tree, trees, agg_tree, literal_of};
 

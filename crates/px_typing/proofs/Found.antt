@@ -2,10 +2,10 @@
 use Rattle.std.proofs.Common.{◌≡◌, ◌==◌, ℕ, suc, Bool, true, false, ◌&&◌, ◌||◌, not, List, [], ◌∷◌, ◌++◌, Option, Some, None, Result, Ok, Err, length, refl, arith, if◌then◌else◌}
 use Rattle.std.proofs.lemmas.Bool.Decides.{nat_tests}
 use Rattle.std.specs.Prelude.{is_none, option_and_then, option_map}
-use Rattle.px_operation.specs.Cast.{is_cast, cast_kind}
-use Rattle.px_value.specs.Kind.{Kind, kind_eq, is_list_kind}
-use Rattle.px_operation.specs.Operator.{operator_kind, kind_where, is_boolean_kind, is_integer_kind}
-use Rattle.px_operation.specs.Reduction.{reduced_kind}
+use Rattle.px_column.specs.Cast.{is_cast, cast_kind}
+use Rattle.px_column.specs.Prelude.{Kind, kind_eq, is_list_kind}
+use Rattle.px_column.specs.Operator.{operator_kind, kind_where, is_boolean_kind, is_integer_kind}
+use Rattle.px_column.specs.Reduction.{reduced_kind}
 use Rattle.px_value.specs.declared.operator.Operator.{Operator}
 use Rattle.px_value.specs.declared.closed_interval.ClosedInterval.{ClosedInterval}
 use Rattle.px_value.specs.declared.method.GroupByMethod.{GroupByMethod}
@@ -14,8 +14,8 @@ use Rattle.px_value.specs.declared.error.PxError.{PxError}
 use Rattle.px_value.specs.declared.error.PxError.TheVariants.{ColumnNotFound, InvalidOperation, ComputeError, SchemaMismatch}
 use Rattle.px_value.specs.declared.error.InvalidWhy.TheVariants.{WindowOnGroups, AggAboveImplode, ScalarOnGroups, ListKey, RangeType, Types}
 use Rattle.px_value.specs.declared.error.ComputeWhy.TheVariants.{AggLiteral, AggScalar, SingleIndex, NoKey}
-use Rattle.px_value.specs.Result.{◌>>=◌}
-use Rattle.px_typing.specs.Facts.{Facts, kinds_of, have_list, all_units, all_literals, any_implode, is_first_unit, is_scalar, column_facts, binary_facts, ternary_facts, cast_facts, only, compared_facts, compared_all, filter_facts, slice_facts, gather_facts, sort_facts, sort_by_facts, agg_facts, len_facts, window_facts, facts_in, all_facts_in, order_facts_in, kind_found}
+use Rattle.px_column.specs.Result.{◌>>=◌}
+use Rattle.px_typing.specs.Facts.{Facts, kinds_of, have_list, all_units, all_literals, any_implode, is_first_unit, is_scalar, column_facts, binary_facts, ternary_facts, cast_facts, only_input, compared_facts, compared_all, filter_facts, slice_facts, gather_facts, sort_facts, sort_by_facts, agg_facts, len_facts, window_facts, facts_in, all_facts_in, order_facts_in, kind_found}
 use Rattle.px_tree.specs.Shape.{is_unit, is_unit_first, are_units, is_literal_tree, are_literal_trees, is_literal_order, has_implode, have_implode, has_implode_order, is_implode}
 use Rattle.px_tree.specs.Tree.{Tree, called, by_name, Trees, Order, Literal, single, range, series, no_trees, one_tree, no_order, ordered, column, literal, alias, binary, ternary, cast, function, filter, slice, gather, sort, sort_by, agg, len, window}
 use Rattle.px_tree.specs.Typing.{Scope, kind_in, kinds_in, kind_of_name, is_range_kind, is_integer_or_null, function_kind, window_kind, made_kind, refused_where, on_groups, refusal_of, fails, refusal_of_one, refusal_of_two, refusal_of_all, has_list_kind, implode_refusal, no_key_refusal, order_kind, not_list, or_first, refusals_of, all_refusals_of, order_refusals_of, compared_kind, first_or_kind, type_of, is_on_groups}
@@ -232,20 +232,20 @@ counted Aggregation true s u l i r = refused _ _ _ _ _ _
 counted Aggregation false true u l i r = refused _ _ _ _ _ _
 counted Aggregation false false u l i r = made u l i r
 
-plain_fits : (place : Context) (typed : List Kind → Result Kind PxError) {r : List PxError} {k : Option Kind} {u l i : Bool} {x : Result Facts PxError} → Fits r k u l i x → Fits (or_first (r ++ []) (on_groups place [] ++ refusal_of_all typed (option_and_then (λ j. Some (j ∷ [])) k))) (option_and_then (λ js. made_kind (typed js)) (option_and_then (λ j. Some (j ∷ [])) k)) u (l && true) (i || false) ((x >>= λ a. Ok (a ∷ [])) >>= λ b. only b >>= λ a. (if is_on_groups place && false then Err (InvalidOperation AggAboveImplode) else (typed (a.kind ∷ []) >>= λ j. Ok (record { kind = j; unit = a.unit; literal = a.literal && true; implode = a.implode || false }))))
+plain_fits : (place : Context) (typed : List Kind → Result Kind PxError) {r : List PxError} {k : Option Kind} {u l i : Bool} {x : Result Facts PxError} → Fits r k u l i x → Fits (or_first (r ++ []) (on_groups place [] ++ refusal_of_all typed (option_and_then (λ j. Some (j ∷ [])) k))) (option_and_then (λ js. made_kind (typed js)) (option_and_then (λ j. Some (j ∷ [])) k)) u (l && true) (i || false) ((x >>= λ a. Ok (a ∷ [])) >>= λ b. only_input b >>= λ a. (if is_on_groups place && false then Err (InvalidOperation AggAboveImplode) else (typed (a.kind ∷ []) >>= λ j. Ok (record { kind = j; unit = a.unit; literal = a.literal && true; implode = a.implode || false }))))
 plain_fits Default typed (found a) = made a.unit (a.literal && true) (a.implode || false) (typed (a.kind ∷ []))
 plain_fits Aggregation typed (found a) = made a.unit (a.literal && true) (a.implode || false) (typed (a.kind ∷ []))
 plain_fits place typed (refused e es k u l i) = refused e _ _ _ _ _
 
-rows_fits : (place : Context) (typed : List Kind → Result Kind PxError) {r : List PxError} {k : Option Kind} {u l i : Bool} {x : Result Facts PxError} → Fits r k u l i x → Fits (or_first (r ++ []) (on_groups place (refused_where (u && not l) (InvalidOperation ScalarOnGroups)) ++ refusal_of_all typed (option_and_then (λ j. Some (j ∷ [])) k))) (option_and_then (λ js. made_kind (typed js)) (option_and_then (λ j. Some (j ∷ [])) k)) false (l && true) (i || false) ((x >>= λ a. Ok (a ∷ [])) >>= λ b. only b >>= λ a. (if is_on_groups place && false then Err (InvalidOperation AggAboveImplode) else (if is_scalar place a then Err (InvalidOperation ScalarOnGroups) else (typed (a.kind ∷ []) >>= λ j. Ok (record { kind = j; unit = false; literal = a.literal && true; implode = a.implode || false })))))
+rows_fits : (place : Context) (typed : List Kind → Result Kind PxError) {r : List PxError} {k : Option Kind} {u l i : Bool} {x : Result Facts PxError} → Fits r k u l i x → Fits (or_first (r ++ []) (on_groups place (refused_where (u && not l) (InvalidOperation ScalarOnGroups)) ++ refusal_of_all typed (option_and_then (λ j. Some (j ∷ [])) k))) (option_and_then (λ js. made_kind (typed js)) (option_and_then (λ j. Some (j ∷ [])) k)) false (l && true) (i || false) ((x >>= λ a. Ok (a ∷ [])) >>= λ b. only_input b >>= λ a. (if is_on_groups place && false then Err (InvalidOperation AggAboveImplode) else (if is_scalar place a then Err (InvalidOperation ScalarOnGroups) else (typed (a.kind ∷ []) >>= λ j. Ok (record { kind = j; unit = false; literal = a.literal && true; implode = a.implode || false })))))
 rows_fits place typed (found a) = counted place false (a.unit && not a.literal) false (a.literal && true) (a.implode || false) (typed (a.kind ∷ []))
 rows_fits place typed (refused e es k u l i) = refused e _ _ _ _ _
 
-null_count_fits : (place : Context) (typed : List Kind → Result Kind PxError) {r : List PxError} {k : Option Kind} {u l i : Bool} {x : Result Facts PxError} → Fits r k u l i x → Fits (or_first (r ++ []) (on_groups place (implode_refusal (i || false) ++ refused_where (u && not l) (InvalidOperation ScalarOnGroups)) ++ refusal_of_all typed (option_and_then (λ j. Some (j ∷ [])) k))) (option_and_then (λ js. made_kind (typed js)) (option_and_then (λ j. Some (j ∷ [])) k)) true (l && true) (i || false) ((x >>= λ a. Ok (a ∷ [])) >>= λ b. only b >>= λ a. (if is_on_groups place && (a.implode || false) then Err (InvalidOperation AggAboveImplode) else (if is_scalar place a then Err (InvalidOperation ScalarOnGroups) else (typed (a.kind ∷ []) >>= λ j. Ok (record { kind = j; unit = true; literal = a.literal && true; implode = a.implode || false })))))
+null_count_fits : (place : Context) (typed : List Kind → Result Kind PxError) {r : List PxError} {k : Option Kind} {u l i : Bool} {x : Result Facts PxError} → Fits r k u l i x → Fits (or_first (r ++ []) (on_groups place (implode_refusal (i || false) ++ refused_where (u && not l) (InvalidOperation ScalarOnGroups)) ++ refusal_of_all typed (option_and_then (λ j. Some (j ∷ [])) k))) (option_and_then (λ js. made_kind (typed js)) (option_and_then (λ j. Some (j ∷ [])) k)) true (l && true) (i || false) ((x >>= λ a. Ok (a ∷ [])) >>= λ b. only_input b >>= λ a. (if is_on_groups place && (a.implode || false) then Err (InvalidOperation AggAboveImplode) else (if is_scalar place a then Err (InvalidOperation ScalarOnGroups) else (typed (a.kind ∷ []) >>= λ j. Ok (record { kind = j; unit = true; literal = a.literal && true; implode = a.implode || false })))))
 null_count_fits place typed (found a) = counted place (a.implode || false) (a.unit && not a.literal) true (a.literal && true) (a.implode || false) (typed (a.kind ∷ []))
 null_count_fits place typed (refused e es k u l i) = refused e _ _ _ _ _
 
-many_fits : (next : Facts → Result Facts PxError) (own : List PxError) (kind : Option Kind) (unit all any : Bool) {r s rs n : List PxError} {k j : Option Kind} {ks : Option (List Kind)} {u l i v m h f us ls is : Bool} {x y : Result Facts PxError} {z : Result (List Facts) PxError} → Fits r k u l i x → Fits s j v m h y → AllFit rs ks n f us ls is z → Fits (or_first (r ++ (s ++ rs)) (InvalidOperation Types ∷ own)) kind unit all any ((x >>= λ a. (y >>= λ b. z >>= λ c. Ok (b ∷ c)) >>= λ c. Ok (a ∷ c)) >>= λ c. only c >>= next)
+many_fits : (next : Facts → Result Facts PxError) (own : List PxError) (kind : Option Kind) (unit all any : Bool) {r s rs n : List PxError} {k j : Option Kind} {ks : Option (List Kind)} {u l i v m h f us ls is : Bool} {x y : Result Facts PxError} {z : Result (List Facts) PxError} → Fits r k u l i x → Fits s j v m h y → AllFit rs ks n f us ls is z → Fits (or_first (r ++ (s ++ rs)) (InvalidOperation Types ∷ own)) kind unit all any ((x >>= λ a. (y >>= λ b. z >>= λ c. Ok (b ∷ c)) >>= λ c. Ok (a ∷ c)) >>= λ c. only_input c >>= next)
 many_fits next own kind unit all any (found a) (found b) (all_found fs) = refused _ _ _ _ _ _
 many_fits next own kind unit all any (found a) (found b) (one_refused e es ks n f u l i) = refused e _ _ _ _ _
 many_fits next own kind unit all any (found a) (refused e es k u l i) q = refused e _ _ _ _ _

@@ -1,7 +1,7 @@
 -- Groups refuse more than the frame.
 use Rattle.std.proofs.Common.{◌≡◌, ◌&&◌, not, List, [], ◌∷◌, ◌++◌, Option, Ok, refl}
-use Rattle.px_value.specs.Kind.{Kind}
-use Rattle.px_operation.specs.Operator.{is_integer_kind}
+use Rattle.px_column.specs.Prelude.{Kind}
+use Rattle.px_column.specs.Operator.{is_integer_kind}
 use Rattle.px_value.specs.declared.error.PxError.{PxError}
 use Rattle.px_value.specs.declared.error.PxError.TheVariants.{InvalidOperation, ComputeError}
 use Rattle.px_value.specs.declared.error.InvalidWhy.TheVariants.{Types}

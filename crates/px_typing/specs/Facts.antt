@@ -1,11 +1,11 @@
 -- What typing finds of an expression, node by node: its type and three truths of its shape, or the first refusal.
 use Rattle.std.specs.Prelude.{ℕ, ◌==◌, Bool, true, false, ◌&&◌, ◌||◌, not, List, [], ◌∷◌, ◌++◌, Option, Some, None, Result, Ok, Err, length, map, if◌then◌else◌}
 use Rattle.std.specs.List.{list_all, list_any}
-use Rattle.px_operation.specs.Cast.{is_cast}
-use Rattle.px_value.specs.Kind.{Kind, uint32s, kind_eq, is_list_kind}
-use Rattle.px_operation.specs.Operator.{operator_kind, is_integer_kind, is_boolean_kind}
-use Rattle.px_operation.specs.Reduction.{reduced_kind}
-use Rattle.px_value.specs.Result.{◌>>=◌}
+use Rattle.px_column.specs.Cast.{is_cast}
+use Rattle.px_column.specs.Prelude.{Kind, uint32s, kind_eq, is_list_kind}
+use Rattle.px_column.specs.Operator.{operator_kind, is_integer_kind, is_boolean_kind}
+use Rattle.px_column.specs.Reduction.{reduced_kind}
+use Rattle.px_column.specs.Result.{◌>>=◌}
 use Rattle.px_value.specs.declared.error.PxError.{PxError}
 use Rattle.px_value.specs.declared.error.PxError.TheVariants.{ColumnNotFound, InvalidOperation, ComputeError, SchemaMismatch}
 use Rattle.px_value.specs.declared.error.InvalidWhy.TheVariants.{WindowOnGroups, AggAboveImplode, ScalarOnGroups, ListKey, RangeType, Types}
@@ -136,16 +136,16 @@ abbrev pub is_first_unit : List Facts → Bool
 is_first_unit [] = false
 is_first_unit (a ∷ inputs) = a.unit
 
--- the only one
-abbrev pub only : List Facts → Result Facts PxError
-only (a ∷ []) = Ok a
-only _ = Err (InvalidOperation Types)
+-- the only_input one
+abbrev pub only_input : List Facts → Result Facts PxError
+only_input (a ∷ []) = Ok a
+only_input _ = Err (InvalidOperation Types)
 
 -- what is found of a function of some inputs
 abbrev pub function_facts : Context → FunctionExpr → List Facts → Result Facts PxError
 function_facts place (IsBetween closed) inputs = compared_facts 3 (all_units inputs) inputs
 function_facts place IsIn inputs = compared_facts 2 (is_first_unit inputs) inputs
-function_facts place f inputs = only inputs >>= λ a. one_input_facts place f a
+function_facts place f inputs = only_input inputs >>= λ a. one_input_facts place f a
 
 -- what is found of a filter by a mask
 abbrev pub filter_facts : Context → Facts → Facts → Result Facts PxError

@@ -1,6 +1,6 @@
 -- The facts that a typed expression stands for.
 use Rattle.std.specs.Prelude.{List, map}
-use Rattle.px_value.specs.KindView.{kind_of}
+use Rattle.px_column.specs.Prelude.{kind_of}
 use Rattle.px_typing.specs.Facts.{Facts}
 use Rattle.px_typing.specs.declared.typed.Typed.{Typed}
 

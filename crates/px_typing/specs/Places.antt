@@ -1,6 +1,6 @@
 -- Groups beside the frame: groups refuse more, and give no other type.
 use Rattle.std.specs.Prelude.{◌≡◌, [], Ok}
-use Rattle.px_value.specs.Kind.{Kind}
+use Rattle.px_column.specs.Prelude.{Kind}
 use Rattle.px_tree.specs.Tree.{Tree}
 use Rattle.px_tree.specs.Typing.{Scope, refusals_of, type_of}
 use Rattle.px_tree.specs.declared.context.Context.TheVariants.{Default, Aggregation}

@@ -1,10 +1,8 @@
 //! What typing finds of a function, from what it found of the inputs.
 ghost use Rattle.std.specs.Prelude.{◌≡◌, not};
 ghost use Rattle.std.specs.List.{list_any};
-ghost use Rattle.px_value.specs.Answer.{AnswersBy};
-ghost use Rattle.px_value.specs.Kind.{kind_eq};
-ghost use Rattle.px_value.specs.KindView.{kind_of};
-ghost use Rattle.px_typing.specs.Facts.{kinds_of, takes_rows, is_null_count, is_unit_of_one, one_input_facts, compared_all, compared_facts, only, function_facts};
+ghost use Rattle.px_column.specs.Prelude.{AnswersBy, kind_eq, kind_of};
+ghost use Rattle.px_typing.specs.Facts.{kinds_of, takes_rows, is_null_count, is_unit_of_one, one_input_facts, compared_all, compared_facts, only_input, function_facts};
 ghost use Rattle.px_typing.specs.FactsView.{facts_of, all_facts_of};
 
 use crate::typed::{
@@ -45,7 +43,7 @@ fn is_unit_of_one(function: FunctionExpr, is_unit: bool) -> bool
     }
 }
 
-pub(crate) fn typed_of_one(function: FunctionExpr, input: Typed, context: Context) -> Px<Typed>
+pub(crate) fn infer_of_one(function: FunctionExpr, input: Typed, context: Context) -> Px<Typed>
     ensures { AnswersBy facts_of result (one_input_facts context function (facts_of input)) }
 {
     if context.is_on_groups() && is_null_count(function) && input.has_implode {
@@ -87,7 +85,7 @@ fn compared_type(inputs: &[Typed]) -> Px<DataType>
     type_where(have_type(others, &first.dtype), DataType::Boolean)
 }
 
-fn typed_compared(count: usize, is_unit: bool, inputs: &[Typed]) -> Px<Typed>
+fn infer_compared(count: usize, is_unit: bool, inputs: &[Typed]) -> Px<Typed>
     ensures { AnswersBy facts_of result (compared_facts count is_unit (all_facts_of inputs.now)) }
 {
     if inputs.len() != count {
@@ -101,9 +99,9 @@ fn typed_compared(count: usize, is_unit: bool, inputs: &[Typed]) -> Px<Typed>
     })
 }
 
-/// The only one, or `Types`.
-fn only(inputs: Vec<Typed>) -> Px<Typed>
-    ensures { AnswersBy facts_of result (only (all_facts_of inputs.items)) }
+/// The only_input one, or `Types`.
+fn only_input(inputs: Vec<Typed>) -> Px<Typed>
+    ensures { AnswersBy facts_of result (only_input (all_facts_of inputs.items)) }
 {
     let mut inputs = inputs;
     match inputs.pop() {
@@ -112,7 +110,7 @@ fn only(inputs: Vec<Typed>) -> Px<Typed>
     }
 }
 
-pub(crate) fn typed_function(
+pub(crate) fn infer_function(
     function: FunctionExpr,
     inputs: Vec<Typed>,
     context: Context,
@@ -120,8 +118,8 @@ pub(crate) fn typed_function(
     ensures { AnswersBy facts_of result (function_facts context function (all_facts_of inputs.items)) }
 {
     match function {
-        FunctionExpr::IsBetween { .. } => typed_compared(3, all_units(&inputs), &inputs),
-        FunctionExpr::IsIn => typed_compared(2, is_first_unit(&inputs), &inputs),
-        _ => typed_of_one(function, only(inputs)?, context),
+        FunctionExpr::IsBetween { .. } => infer_compared(3, all_units(&inputs), &inputs),
+        FunctionExpr::IsIn => infer_compared(2, is_first_unit(&inputs), &inputs),
+        _ => infer_of_one(function, only_input(inputs)?, context),
     }
 }

@@ -1,7 +1,6 @@
 //! What typing finds of an expression, from what it found of the inputs.
 ghost use Rattle.std.specs.Prelude.{◌≡◌, Ok, not, option_map};
-ghost use Rattle.px_value.specs.Answer.{AnswersBy};
-ghost use Rattle.px_value.specs.KindView.{kind_of};
+ghost use Rattle.px_column.specs.Prelude.{AnswersBy, kind_of};
 ghost use Rattle.px_typing.specs.Facts.{column_facts, is_typed_literal, literal_facts, binary_facts, ternary_facts, cast_facts, filter_facts, slice_facts, gather_facts, sort_facts, sort_by_facts, agg_facts, window_facts, len_facts, is_list_order, is_literal_key, is_implode_key};
 ghost use Rattle.px_typing.specs.FactsView.{facts_of, all_facts_of};
 ghost use Rattle.px_tree.specs.Typing.{kind_of_name};
@@ -17,7 +16,7 @@ use px_frame::Schema;
 use px_tree::{Context, LiteralValue, WindowType, is_range_type};
 use std::alloc::Global;
 
-pub(crate) fn typed_column(alloc: Global, name: &Name, scope: &Schema) -> Px<Typed>
+pub(crate) fn infer_column(alloc: Global, name: &Name, scope: &Schema) -> Px<Typed>
     ensures { AnswersBy facts_of result (column_facts name.now (kind_of_name name.now scope.now)) }
 {
     match scope.get_full(name) {
@@ -41,7 +40,7 @@ fn is_range_refused(value: &LiteralValue) -> bool
     }
 }
 
-pub(crate) fn typed_literal(alloc: Global, value: &LiteralValue) -> Px<Typed>
+pub(crate) fn infer_literal(alloc: Global, value: &LiteralValue) -> Px<Typed>
     ensures { AnswersBy facts_of result (literal_facts (literal_of value.now)) }
 {
     if is_range_refused(value) {
@@ -55,7 +54,7 @@ pub(crate) fn typed_literal(alloc: Global, value: &LiteralValue) -> Px<Typed>
     })
 }
 
-pub(crate) fn typed_binary(op: Operator, left: Typed, right: &Typed) -> Px<Typed>
+pub(crate) fn infer_binary(op: Operator, left: Typed, right: &Typed) -> Px<Typed>
     ensures { AnswersBy facts_of result (binary_facts op (facts_of left) (facts_of right.now)) }
 {
     Ok(Typed {
@@ -66,7 +65,7 @@ pub(crate) fn typed_binary(op: Operator, left: Typed, right: &Typed) -> Px<Typed
     })
 }
 
-pub(crate) fn typed_ternary(predicate: &Typed, truthy: Typed, falsy: &Typed) -> Px<Typed>
+pub(crate) fn infer_ternary(predicate: &Typed, truthy: Typed, falsy: &Typed) -> Px<Typed>
     ensures { AnswersBy facts_of result (ternary_facts (facts_of predicate.now) (facts_of truthy) (facts_of falsy.now)) }
 {
     if !is_boolean(&predicate.dtype) {
@@ -83,7 +82,7 @@ pub(crate) fn typed_ternary(predicate: &Typed, truthy: Typed, falsy: &Typed) -> 
     })
 }
 
-pub(crate) fn typed_cast(alloc: Global, input: &Typed, to: &DataType) -> Px<Typed>
+pub(crate) fn infer_cast(alloc: Global, input: &Typed, to: &DataType) -> Px<Typed>
     ensures { AnswersBy facts_of result (cast_facts (facts_of input.now) (kind_of to.now)) }
 {
     Ok(Typed {
@@ -94,7 +93,7 @@ pub(crate) fn typed_cast(alloc: Global, input: &Typed, to: &DataType) -> Px<Type
     })
 }
 
-pub(crate) fn typed_filter(input: Typed, by: &Typed, context: Context) -> Px<Typed>
+pub(crate) fn infer_filter(input: Typed, by: &Typed, context: Context) -> Px<Typed>
     ensures { AnswersBy facts_of result (filter_facts context (facts_of input) (facts_of by.now)) }
 {
     if is_scalar(&input, context) {
@@ -111,7 +110,7 @@ pub(crate) fn typed_filter(input: Typed, by: &Typed, context: Context) -> Px<Typ
     })
 }
 
-pub(crate) fn typed_slice(
+pub(crate) fn infer_slice(
     input: Typed,
     offset: &Typed,
     length: &Typed,
@@ -137,7 +136,7 @@ pub(crate) fn typed_slice(
     })
 }
 
-pub(crate) fn typed_gather(
+pub(crate) fn infer_gather(
     input: Typed,
     idx: &Typed,
     returns_scalar: bool,
@@ -162,7 +161,7 @@ pub(crate) fn typed_gather(
     })
 }
 
-pub(crate) fn typed_sort(input: Typed, context: Context) -> Px<Typed>
+pub(crate) fn infer_sort(input: Typed, context: Context) -> Px<Typed>
     ensures { AnswersBy facts_of result (sort_facts context (facts_of input)) }
 {
     if is_scalar(&input, context) {
@@ -179,7 +178,7 @@ pub(crate) fn typed_sort(input: Typed, context: Context) -> Px<Typed>
     })
 }
 
-pub(crate) fn typed_sort_by(input: Typed, by: &[Typed], context: Context) -> Px<Typed>
+pub(crate) fn infer_sort_by(input: Typed, by: &[Typed], context: Context) -> Px<Typed>
     ensures { AnswersBy facts_of result (sort_by_facts context (facts_of input) (all_facts_of by.now)) }
 {
     if is_scalar(&input, context) {
@@ -196,7 +195,7 @@ pub(crate) fn typed_sort_by(input: Typed, by: &[Typed], context: Context) -> Px<
     })
 }
 
-pub(crate) fn typed_agg(
+pub(crate) fn infer_agg(
     alloc: Global,
     method: GroupByMethod,
     input: Typed,
@@ -224,7 +223,7 @@ pub(crate) fn typed_agg(
     })
 }
 
-pub(crate) fn typed_len() -> Typed
+pub(crate) fn infer_len() -> Typed
     ensures { facts_of result ≡ len_facts }
 {
     Typed {
@@ -262,7 +261,7 @@ fn is_implode_key(order: &Option<Typed>) -> bool
     }
 }
 
-pub(crate) fn typed_window(
+pub(crate) fn infer_window(
     alloc: Global,
     options: WindowType,
     function: Typed,

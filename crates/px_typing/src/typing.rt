@@ -1,7 +1,6 @@
 //! The types of expressions.
 ghost use Rattle.std.specs.Prelude.{◌≡◌, option_map};
-ghost use Rattle.px_value.specs.Answer.{AnswersBy};
-ghost use Rattle.px_value.specs.KindView.{kind_of};
+ghost use Rattle.px_column.specs.Prelude.{AnswersBy, kind_of};
 ghost use Rattle.px_typing.specs.Facts.{facts_in, all_facts_in, order_facts_in, agg_facts};
 ghost use Rattle.px_typing.specs.FactsView.{facts_of, all_facts_of};
 ghost use Rattle.px_typing.specs.Places.{IsRefusedMoreOnGroups, KeepsTypeOnFrame};
@@ -9,10 +8,10 @@ ghost use Rattle.px_tree.specs.Typing.{type_of};
 ghost use Rattle.px_tree.specs.View.{tree, trees, agg_tree, order_tree};
 ghost use Rattle.px_tree.specs.declared.context.Context.TheVariants.{Aggregation};
 
-use crate::functions::{typed_function, typed_of_one};
+use crate::functions::{infer_function, infer_of_one};
 use crate::nodes::{
-    typed_agg, typed_binary, typed_cast, typed_column, typed_filter, typed_gather, typed_len,
-    typed_literal, typed_slice, typed_sort, typed_sort_by, typed_ternary, typed_window,
+    infer_agg, infer_binary, infer_cast, infer_column, infer_filter, infer_gather, infer_len,
+    infer_literal, infer_slice, infer_sort, infer_sort_by, infer_ternary, infer_window,
 };
 use crate::typed::Typed;
 use px_column::{DataType, GroupByMethod, Px, SortOptions};
@@ -35,7 +34,7 @@ use std::rc::Rc;
 pub fn type_of(alloc: Global, expr: &Expr, scope: &Schema, context: Context) -> Px<DataType>
     ensures { AnswersBy kind_of result (type_of (tree expr.now) scope.now context) }
 {
-    let typed = typed_expr(alloc, expr, scope, context)?;
+    let typed = infer_expr(alloc, expr, scope, context)?;
     Ok(typed.dtype)
 }
 
@@ -50,91 +49,91 @@ pub fn type_on_groups(alloc: Global, expr: &Expr, scope: &Schema) -> Px<DataType
 }
 
 #[cycle(typing)]
-fn typed_expr(alloc: Global, expr: &Expr, scope: &Schema, context: Context) -> Px<Typed>
+fn infer_expr(alloc: Global, expr: &Expr, scope: &Schema, context: Context) -> Px<Typed>
     ensures { AnswersBy facts_of result (facts_in (tree expr.now) scope.now context) }
 {
     match expr {
-        Expr::Column(name) => typed_column(alloc, name, scope),
-        Expr::Literal(value) => typed_literal(alloc, value),
-        Expr::Alias(input, _) => typed_expr(alloc, input, scope, context),
+        Expr::Column(name) => infer_column(alloc, name, scope),
+        Expr::Literal(value) => infer_literal(alloc, value),
+        Expr::Alias(input, _) => infer_expr(alloc, input, scope, context),
         Expr::BinaryExpr { left, op, right } => {
-            let left = typed_expr(alloc, left, scope, context)?;
-            let right = typed_expr(alloc, right, scope, context)?;
-            typed_binary(*op, left, &right)
+            let left = infer_expr(alloc, left, scope, context)?;
+            let right = infer_expr(alloc, right, scope, context)?;
+            infer_binary(*op, left, &right)
         }
         Expr::Ternary {
             predicate,
             truthy,
             falsy,
         } => {
-            let predicate = typed_expr(alloc, predicate, scope, context)?;
-            let truthy = typed_expr(alloc, truthy, scope, context)?;
-            let falsy = typed_expr(alloc, falsy, scope, context)?;
-            typed_ternary(&predicate, truthy, &falsy)
+            let predicate = infer_expr(alloc, predicate, scope, context)?;
+            let truthy = infer_expr(alloc, truthy, scope, context)?;
+            let falsy = infer_expr(alloc, falsy, scope, context)?;
+            infer_ternary(&predicate, truthy, &falsy)
         }
         Expr::Cast { expr, dtype, .. } => {
-            let input = typed_expr(alloc, expr, scope, context)?;
-            typed_cast(alloc, &input, dtype)
+            let input = infer_expr(alloc, expr, scope, context)?;
+            infer_cast(alloc, &input, dtype)
         }
         Expr::Function { input, function } => {
-            let inputs = typed_all(alloc, input, scope, context)?;
-            typed_function(*function, inputs, context)
+            let inputs = infer_all(alloc, input, scope, context)?;
+            infer_function(*function, inputs, context)
         }
         Expr::Explode(input) => {
-            let input = typed_expr(alloc, input, scope, context)?;
-            typed_of_one(FunctionExpr::Explode, input, context)
+            let input = infer_expr(alloc, input, scope, context)?;
+            infer_of_one(FunctionExpr::Explode, input, context)
         }
         Expr::Filter { input, by } => {
-            let input = typed_expr(alloc, input, scope, context)?;
-            let by = typed_expr(alloc, by, scope, context)?;
-            typed_filter(input, &by, context)
+            let input = infer_expr(alloc, input, scope, context)?;
+            let by = infer_expr(alloc, by, scope, context)?;
+            infer_filter(input, &by, context)
         }
         Expr::Slice {
             input,
             offset,
             length,
         } => {
-            let input = typed_expr(alloc, input, scope, context)?;
-            let offset = typed_expr(alloc, offset, scope, context)?;
-            let length = typed_expr(alloc, length, scope, context)?;
-            typed_slice(input, &offset, &length, context)
+            let input = infer_expr(alloc, input, scope, context)?;
+            let offset = infer_expr(alloc, offset, scope, context)?;
+            let length = infer_expr(alloc, length, scope, context)?;
+            infer_slice(input, &offset, &length, context)
         }
         Expr::Gather {
             expr,
             idx,
             returns_scalar,
         } => {
-            let input = typed_expr(alloc, expr, scope, context)?;
-            let idx = typed_expr(alloc, idx, scope, context)?;
-            typed_gather(input, &idx, *returns_scalar, context)
+            let input = infer_expr(alloc, expr, scope, context)?;
+            let idx = infer_expr(alloc, idx, scope, context)?;
+            infer_gather(input, &idx, *returns_scalar, context)
         }
         Expr::Sort { expr, .. } => {
-            let input = typed_expr(alloc, expr, scope, context)?;
-            typed_sort(input, context)
+            let input = infer_expr(alloc, expr, scope, context)?;
+            infer_sort(input, context)
         }
         Expr::SortBy { expr, by, .. } => {
-            let input = typed_expr(alloc, expr, scope, context)?;
-            let by = typed_all(alloc, by, scope, context)?;
-            typed_sort_by(input, &by, context)
+            let input = infer_expr(alloc, expr, scope, context)?;
+            let by = infer_all(alloc, by, scope, context)?;
+            infer_sort_by(input, &by, context)
         }
-        Expr::Agg(reduction) => typed_reduction(alloc, reduction, scope, context),
-        Expr::Len => Ok(typed_len()),
+        Expr::Agg(reduction) => infer_reduction(alloc, reduction, scope, context),
+        Expr::Len => Ok(infer_len()),
         Expr::Window {
             function,
             partition_by,
             order_by,
             options,
         } => {
-            let function = typed_expr(alloc, function, scope, Context::Aggregation)?;
-            let keys = typed_all(alloc, partition_by, scope, Context::Default)?;
-            let order = typed_order(alloc, order_by, scope, Context::Default)?;
-            typed_window(alloc, *options, function, &keys, order, context)
+            let function = infer_expr(alloc, function, scope, Context::Aggregation)?;
+            let keys = infer_all(alloc, partition_by, scope, Context::Default)?;
+            let order = infer_order(alloc, order_by, scope, Context::Default)?;
+            infer_window(alloc, *options, function, &keys, order, context)
         }
     }
 }
 
 #[cycle(typing)]
-fn typed_reduction(
+fn infer_reduction(
     alloc: Global,
     reduction: &AggExpr,
     scope: &Schema,
@@ -157,23 +156,23 @@ fn typed_reduction(
             input,
         ),
     };
-    let input = typed_expr(alloc, input, scope, context)?;
-    typed_agg(alloc, method, input, context)
+    let input = infer_expr(alloc, input, scope, context)?;
+    infer_agg(alloc, method, input, context)
 }
 
 #[cycle(typing)]
-fn typed_all(alloc: Global, exprs: &Exprs, scope: &Schema, context: Context) -> Px<Vec<Typed>>
+fn infer_all(alloc: Global, exprs: &Exprs, scope: &Schema, context: Context) -> Px<Vec<Typed>>
     ensures { AnswersBy (λ v. all_facts_of v.items) result (all_facts_in (trees exprs.now) scope.now context) }
 {
     let mut items = Vec::new(alloc);
     for expr in exprs.items.iter() {
-        items.push(typed_expr(alloc, expr, scope, context)?)?;
+        items.push(infer_expr(alloc, expr, scope, context)?)?;
     }
     Ok(items)
 }
 
 #[cycle(typing)]
-fn typed_order(
+fn infer_order(
     alloc: Global,
     order: &Option<(Rc<Expr>, SortOptions)>,
     scope: &Schema,
@@ -183,6 +182,6 @@ fn typed_order(
 {
     match order {
         None => Ok(None),
-        Some((key, _)) => Ok(Some(typed_expr(alloc, key, scope, context)?)),
+        Some((key, _)) => Ok(Some(infer_expr(alloc, key, scope, context)?)),
     }
 }

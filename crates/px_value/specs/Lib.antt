@@ -15,3 +15,4 @@ pub mod Answer
 pub mod Order
 pub mod Rows
 pub mod OrderRows
+pub mod Prelude

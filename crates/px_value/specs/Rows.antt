@@ -23,8 +23,8 @@ abbrev pub gone : Slot
 gone = None
 
 -- a list of these places
-abbrev pub list_of : List Slot → Slot
-list_of xs = Some (list (slots xs))
+abbrev pub list_slot : List Slot → Slot
+list_slot xs = Some (list (slots xs))
 
 -- a text
 abbrev pub text_of : List ℕ → Slot

@@ -1,8 +1,7 @@
 -- What a group step by columns answers.
 use Rattle.std.proofs.Common.{◌≡◌, ℕ, ◌==◌, true, false, length, List, [], ◌∷◌, ◌++◌, Option, Some, None, Result, Ok, Err, map, refl, sym, ◌∙◌, ap, subst, option_map, option_and_then, if◌then◌else◌}
 use Rattle.std.specs.List.{flat_map}
-use Rattle.px_value.specs.Answer.{Answers}
-use Rattle.px_value.specs.Series.{Series}
+use Rattle.px_column.specs.Prelude.{Answers, Series}
 use Rattle.px_value.specs.declared.error.PxError.{PxError}
 use Rattle.px_value.specs.declared.error.PxError.TheVariants.{ColumnNotFound, Duplicate, InvalidOperation, ComputeError, OutOfBounds, ShapeMismatch, SchemaMismatch, OutOfMemory}
 use Rattle.px_frame.specs.Frame.{first_repeat, frame_of, height_of, is_even, names_of, unless_repeated}
@@ -10,7 +9,7 @@ use Rattle.px_frame.specs.Parts.{parts_of}
 use Rattle.px_tree.specs.Shape.{name_of}
 use Rattle.px_steps.specs.Direct.{first_of_two, agg_refusals, aggregated_on, columns_on, key_on, key_refusals, repeat_refusal, step_on, step_refusals}
 use Rattle.px_tree.specs.Tree.{Tree, column}
-use Rattle.px_value.specs.Option.{each}
+use Rattle.px_column.specs.Option.{each}
 use Rattle.px_steps.specs.Meets.{Meets}
 use Rattle.px_steps.specs.Plain.{key_values, no_key_refusal}
 use Rattle.px_tree.specs.Step.{group}

@@ -2,9 +2,7 @@
 use Rattle.std.proofs.Common.{◌≡◌, ℕ, zero, suc, ◌+◌, Bool, true, List, [], ◌∷◌, Ok, Err, length, map, refl, sym, ◌∙◌, ap, if◌then◌else◌, add-one}
 use Rattle.std.specs.List.{range_with_len}
 use Rattle.px_column.specs.Column.{made}
-use Rattle.px_value.specs.Datum.{Slot}
-use Rattle.px_value.specs.Kind.{Kind, slots_fit}
-use Rattle.px_value.specs.Series.{Series, slot_at}
+use Rattle.px_column.specs.Prelude.{Slot, Kind, slots_fit, Series, slot_at}
 use Rattle.px_value.specs.declared.error.PxError.TheVariants.{InvalidOperation}
 use Rattle.px_value.specs.declared.error.InvalidWhy.TheVariants.{Types}
 use Rattle.px_frame.specs.Frame.{slots_at}

@@ -1,7 +1,6 @@
 -- A key as a column, or why it is refused.
 use Rattle.std.proofs.Common.{◌≡◌, ℕ, true, false, List, [], ◌∷◌, Some, None, refl}
-use Rattle.px_value.specs.Kind.{Kind, booleans, int8s, int16s, int32s, int64s, uint8s, uint16s, uint32s, uint64s, strings, binaries, nulls, lists, is_list_kind}
-use Rattle.px_value.specs.Series.{Series}
+use Rattle.px_column.specs.Prelude.{Kind, booleans, int8s, int16s, int32s, int64s, uint8s, uint16s, uint32s, uint64s, strings, binaries, nulls, lists, is_list_kind, Series}
 use Rattle.px_value.specs.declared.error.PxError.TheVariants.{ColumnNotFound, InvalidOperation}
 use Rattle.px_value.specs.declared.error.InvalidWhy.TheVariants.{ListKey}
 use Rattle.px_frame.specs.Frame.{look}

@@ -2,9 +2,7 @@
 use Rattle.std.proofs.Common.{◌≡◌, ℕ, true, ◌&&◌, List, [], ◌∷◌, ◌++◌, Option, Some, None, length, map, refl, ◌∙◌, ap, arith, option_map, option_and_then}
 use Rattle.std.proofs.lemmas.Bool.Decides.{nat_tests}
 use Rattle.std.proofs.lemmas.List.{length-map, map-append}
-use Rattle.px_value.specs.Datum.{Slot}
-use Rattle.px_value.specs.Kind.{Kind}
-use Rattle.px_value.specs.Series.{Series, slot_at}
+use Rattle.px_column.specs.Prelude.{Slot, Kind, Series, slot_at}
 use Rattle.px_frame.specs.Cell.{Cell}
 use Rattle.px_frame.specs.Frame.{all_have_height, has_height, height_of, is_even, names_of}
 use Rattle.px_frame.specs.Groups.{first_row}
@@ -12,7 +10,7 @@ use Rattle.px_value.proofs.FitLaws.{all_append, both}
 use Rattle.px_steps.specs.Direct.{kind_on, value_on, aggregated_on, grouped_kind, key_on, spread, value_on_part}
 use Rattle.px_tree.specs.Shape.{name_of, is_unit}
 use Rattle.px_tree.specs.Tree.{Tree}
-use Rattle.px_value.specs.Option.{each}
+use Rattle.px_column.specs.Option.{each}
 use Rattle.px_steps.specs.Plain.{key_values}
 use Rattle.px_value.proofs.EachLaws.{each_maps, each_passes}
 use Rattle.px_frame.proofs.LookLaws.{has_length, even_from as as_tall}

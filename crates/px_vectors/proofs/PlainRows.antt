@@ -3,10 +3,9 @@ use Rattle.std.proofs.Common.{◌≡◌, ℕ, ◌+◌, Bool, true, false, cond, 
 use Rattle.std.specs.List.{list_any}
 use Rattle.std.proofs.lemmas.List.{append-nil, map_push}
 use Rattle.std.proofs.lemmas.List.FromFn.{length-map-range_with_len}
-use Rattle.px_value.specs.Datum.{Slot}
-use Rattle.px_value.specs.Equality.{row_eq}
+use Rattle.px_column.specs.Prelude.{Slot, Series}
+use Rattle.px_column.specs.Equality.{row_eq}
 use Rattle.px_column.specs.Key.{key_at, keys_of}
-use Rattle.px_value.specs.Series.{Series}
 use Rattle.px_frame.specs.Parts.{distinct, numbers}
 use Rattle.px_frame.proofs.PartLaws.{keys_step, numbers_end}
 use Rattle.px_column.proofs.KeyLaws.{keys_push}

@@ -2,11 +2,8 @@
 use Rattle.std.proofs.Common.{◌≡◌, ℕ, ◌+◌, ◌<◌, Bool, true, false, cond, List, [], ◌∷◌, ◌++◌, Option, Some, None, length, map, drop, get_or, refl, sym, ◌∙◌, ap, add-one, append_assoc, drop-cons, option_map, option_and_then}
 use Rattle.std.proofs.lemmas.List.{map_push}
 use Rattle.std.specs.Option.{option_map_or}
-use Rattle.px_value.specs.Datum.{Datum, integer, Slot}
-use Rattle.px_value.specs.Kind.{Kind}
-use Rattle.px_value.specs.Series.{Series, slot_at}
-use Rattle.px_operation.specs.Sum.{sum_kind, summed, total, wrapped}
-use Rattle.px_value.specs.View.{slot_of, slots_of}
+use Rattle.px_column.specs.Prelude.{Datum, integer, Slot, Kind, Series, slot_at, slot_of, slots_of}
+use Rattle.px_column.specs.Sum.{sum_kind, summed, total, wrapped}
 use Rattle.px_value.specs.declared.value.Value.{Value}
 use Rattle.px_value.specs.declared.method.GroupByMethod.TheVariants.{Sum}
 use Rattle.px_frame.specs.Cell.{unit, value_of_cell}

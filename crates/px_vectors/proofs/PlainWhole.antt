@@ -1,7 +1,7 @@
 -- What a group step by columns answers, told among all steps.
 use Rattle.std.proofs.Common.{◌≡◌, ℕ, true, ◌&&◌, List, [], ◌∷◌, Option, None, Result, Ok, Err, map, refl, ◌∙◌, ap}
 use Rattle.std.specs.List.{list_all}
-use Rattle.px_value.specs.Series.{Series}
+use Rattle.px_column.specs.Prelude.{Series}
 use Rattle.px_value.specs.declared.error.PxError.{PxError}
 use Rattle.px_value.specs.declared.error.PxError.TheVariants.{ColumnNotFound, Duplicate, InvalidOperation, ComputeError, OutOfBounds, ShapeMismatch, SchemaMismatch, OutOfMemory}
 use Rattle.px_frame.specs.External.{alone}

@@ -1,8 +1,6 @@
 -- Frames, expressions and steps of every kind, of which the examples speak.
 use Rattle.std.specs.Prelude.{ℕ, zero, suc, negsuc, Bool, true, false, List, [], ◌∷◌, Option, Some, None, codes, map}
-use Rattle.px_value.specs.Datum.{boolean, integer, text, list, Slot, slots}
-use Rattle.px_value.specs.Kind.{Kind, int32s, int64s, strings, nulls}
-use Rattle.px_value.specs.Series.{Series}
+use Rattle.px_column.specs.Prelude.{boolean, integer, text, list, Slot, slots, Kind, int32s, int64s, strings, nulls, Series}
 use Rattle.px_value.specs.declared.cast_options.CastOptions.TheVariants.{Strict}
 use Rattle.px_value.specs.declared.error.PxError.{PxError}
 use Rattle.px_value.specs.declared.error.PxError.TheVariants.{InvalidOperation, ComputeError}

@@ -1,8 +1,6 @@
 -- Small frames of integers and what is done with them, of which the worked examples speak.
 use Rattle.std.specs.Prelude.{ℕ, pos, List, [], ◌∷◌, Some, None, codes}
-use Rattle.px_value.specs.Datum.{integer, Slot}
-use Rattle.px_value.specs.Kind.{int64s, uint32s}
-use Rattle.px_value.specs.Series.{Series}
+use Rattle.px_column.specs.Prelude.{integer, Slot, int64s, uint32s, Series}
 use Rattle.px_value.specs.declared.method.GroupByMethod.TheVariants.{Sum}
 use Rattle.px_tree.specs.Tree.{Tree, column, agg, len}
 use Rattle.px_tree.specs.Step.{PlainStep, group}

@@ -1,7 +1,7 @@
 //! Examples of which expressions are core and flat, and of what evaluating them costs. A function here
 //! does nothing: its clauses are the examples.
 ghost use Rattle.std.specs.Prelude.{◌≡◌, true, false, [], ◌∷◌, Some, None, codes};
-ghost use Rattle.px_value.specs.Kind.{int64s};
+ghost use Rattle.px_column.specs.Prelude.{int64s};
 ghost use Rattle.px_value.specs.declared.cast_options.CastOptions.TheVariants.{NonStrict};
 ghost use Rattle.px_value.specs.declared.operator.Operator.TheVariants.{Plus};
 ghost use Rattle.px_frame.specs.External.{scope_of};

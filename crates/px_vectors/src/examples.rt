@@ -1,8 +1,7 @@
 //! Examples of steps of every kind that the definitions compute to. A function here does nothing: its
 //! clauses are the examples.
 ghost use Rattle.std.specs.Prelude.{◌≡◌, pos, negsuc, true, false, [], ◌∷◌, Some, None, codes};
-ghost use Rattle.px_value.specs.Datum.{integer, list, slots};
-ghost use Rattle.px_value.specs.Kind.{booleans, int8s, int32s, int64s, uint8s, uint32s, strings, lists};
+ghost use Rattle.px_column.specs.Prelude.{integer, list, slots, booleans, int8s, int32s, int64s, uint8s, uint32s, strings, lists};
 ghost use Rattle.px_value.specs.declared.cast_options.CastOptions.TheVariants.{Strict};
 ghost use Rattle.px_value.specs.declared.error.ComputeWhy.TheVariants.{AggLiteral, AggScalar, SingleIndex, NotPartitionSafe, SliceArgument, NullIndex, RangeBound, WindowLength, ChunkLengths};
 ghost use Rattle.px_value.specs.declared.error.InvalidWhy.TheVariants.{WindowOnGroups, AggAboveImplode, ScalarOnGroups, ListKey, RangeType, Types, CastLost};

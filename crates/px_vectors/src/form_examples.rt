@@ -2,8 +2,7 @@
 //! examples.
 ghost use Rattle.std.specs.Prelude.{◌≡◌, pos, negsuc, true, false, [], ◌∷◌, Some, None, codes, option_and_then};
 ghost use Rattle.serde_json.specs.Read.{read};
-ghost use Rattle.px_value.specs.Datum.{boolean, bytes};
-ghost use Rattle.px_value.specs.Kind.{binaries, booleans, int32s, int64s, nulls, strings, uint8s};
+ghost use Rattle.px_column.specs.Prelude.{boolean, bytes, binaries, booleans, int32s, int64s, nulls, strings, uint8s};
 ghost use Rattle.px_value.specs.declared.cast_options.CastOptions.TheVariants.{NonStrict};
 ghost use Rattle.px_value.specs.declared.closed_interval.ClosedInterval.TheVariants.{Left};
 ghost use Rattle.px_value.specs.declared.method.GroupByMethod.TheVariants.{Count, Max};

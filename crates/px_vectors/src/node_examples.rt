@@ -1,8 +1,7 @@
 //! What each expression answers on the frame of four rows. A function here does nothing: its clauses are
 //! the examples.
 ghost use Rattle.std.specs.Prelude.{◌≡◌, pos, negsuc, true, false, [], ◌∷◌, Some, None, codes};
-ghost use Rattle.px_value.specs.Datum.{integer, list, slots};
-ghost use Rattle.px_value.specs.Kind.{int64s, lists, strings};
+ghost use Rattle.px_column.specs.Prelude.{integer, list, slots, int64s, lists, strings};
 ghost use Rattle.px_value.specs.declared.cast_options.CastOptions.TheVariants.{Strict};
 ghost use Rattle.px_value.specs.declared.closed_interval.ClosedInterval.TheVariants.{Both};
 ghost use Rattle.px_value.specs.declared.error.ComputeWhy.TheVariants.{SliceArgument};

@@ -1,8 +1,8 @@
 //! Plain, slow programs that go through the rows as the definitions do.
 ghost use Rattle.std.specs.Prelude.{◌≡◌, Ok, map};
 ghost use Rattle.std.specs.List.{list_any};
-ghost use Rattle.px_value.specs.Answer.{AnswersBy};
-ghost use Rattle.px_value.specs.Equality.{row_eq};
+ghost use Rattle.px_column.specs.Prelude.{AnswersBy};
+ghost use Rattle.px_column.specs.Equality.{row_eq};
 ghost use Rattle.px_column.specs.Key.{key_at, keys_of};
 ghost use Rattle.px_frame.specs.Parts.{distinct, numbers, parts_of};
 

@@ -2,8 +2,7 @@
 ghost use Rattle.std.specs.Prelude.{◌≡◌, pos, negsuc, false, [], ◌∷◌, ◌++◌, Some, None, codes, length, option_and_then};
 ghost use Rattle.serde_json.specs.Data.{null, member, no_members};
 ghost use Rattle.serde_json.specs.Read.{read};
-ghost use Rattle.px_value.specs.Datum.{boolean, integer, text, bytes, list, no_slots, absent, present};
-ghost use Rattle.px_value.specs.Kind.{lists, int64s};
+ghost use Rattle.px_column.specs.Prelude.{boolean, integer, text, bytes, list, no_slots, absent, present, lists, int64s};
 ghost use Rattle.px_value.specs.declared.error.PxError.TheVariants.{ColumnNotFound, Duplicate, ComputeError, ShapeMismatch};
 ghost use Rattle.px_value.specs.declared.error.ComputeWhy.TheVariants.{NoKey};
 ghost use Rattle.px_frame.specs.External.{alone};

@@ -3,7 +3,7 @@ ghost use Rattle.std.specs.Prelude.{◌≡◌, ◌+◌, ◌<◌, ◌^◌, ◌+�
 ghost use Rattle.px_value.specs.Datum.{integer};
 ghost use Rattle.px_value.specs.KindView.{kind_of};
 ghost use Rattle.px_value.specs.Series.{slot_at};
-ghost use Rattle.px_operation.specs.Sum.{number_of, total, sum_kind, IsWithin};
+ghost use Rattle.px_operation.specs.Sum.{addend, total, sum_kind, IsWithin};
 ghost use Rattle.px_operation.specs.Wrap.{wrapped_in};
 ghost use Rattle.px_value.specs.View.{datum_of};
 
@@ -15,7 +15,7 @@ impl Column {
     /// The sum with one more row, where it is the sum of `count` rows so far.
     fn plus_row(&self, sum: i128, count: u32, row: u32) -> i128
         requires { IsWithin count sum }
-        ensures sum { result ≡ sum +ℤ number_of (slot_at self.now.slots row) }
+        ensures sum { result ≡ sum +ℤ addend (slot_at self.now.slots row) }
         ensures within { IsWithin (count + 1) result }
     {
         sum + number(self.get_or_null(row))

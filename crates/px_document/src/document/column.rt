@@ -1,11 +1,10 @@
 //! Reading columns.
 ghost use Rattle.std.specs.Prelude.{map};
 ghost use Rattle.serde_json.specs.View.{view};
-ghost use Rattle.px_value.specs.KindView.{kind_of};
-ghost use Rattle.px_value.specs.View.{slots_of};
+ghost use Rattle.px_column.specs.Prelude.{kind_of, slots_of};
 ghost use Rattle.px_document.specs.Document.{column_of, column_with};
 ghost use Rattle.px_document.specs.Form.{Reads, ReadsBy};
-ghost use Rattle.px_value.specs.Option.{each};
+ghost use Rattle.px_column.specs.Option.{each};
 
 use crate::document::fault::DocumentFault;
 use crate::document::fields::{items, read_text, three_fields};

@@ -3,7 +3,7 @@ ghost use Rattle.std.specs.Prelude.{◌≡◌, map, option_and_then, option_map}
 ghost use Rattle.std.specs.List.{list_all};
 ghost use Rattle.serde_json.specs.Find.{as_null, as_str};
 ghost use Rattle.serde_json.specs.View.{view};
-ghost use Rattle.px_value.specs.Option.{each};
+ghost use Rattle.px_column.specs.Option.{each};
 ghost use Rattle.px_tree.specs.Tree.{column, len};
 ghost use Rattle.px_tree.specs.View.{tree};
 ghost use Rattle.px_document.specs.ExprForm.{alias_parts, expr_form, expr_of, expr_within, is_text, reduction_parts};

@@ -2,10 +2,7 @@
 ghost use Rattle.std.specs.Prelude.{◌≡◌, [], ◌∷◌, None, Some, codes, false, option_and_then, option_map};
 ghost use Rattle.serde_json.specs.Find.{as_str};
 ghost use Rattle.serde_json.specs.View.{view};
-ghost use Rattle.px_value.specs.Datum.{boolean, bytes, integer, text};
-ghost use Rattle.px_value.specs.Kind.{is_list_kind};
-ghost use Rattle.px_value.specs.KindView.{kind_of};
-ghost use Rattle.px_value.specs.View.{datum_of, slot_of};
+ghost use Rattle.px_column.specs.Prelude.{boolean, bytes, integer, text, is_list_kind, kind_of, datum_of, slot_of};
 ghost use Rattle.px_tree.specs.Tree.{literal, series};
 ghost use Rattle.px_tree.specs.View.{literal_of, tree};
 ghost use Rattle.px_document.specs.Document.{column_of};

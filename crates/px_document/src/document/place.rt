@@ -2,11 +2,10 @@
 ghost use Rattle.std.specs.Prelude.{◌≡◌, map, option_map, option_and_then};
 ghost use Rattle.serde_json.specs.Find.{as_number, as_str, as_integer};
 ghost use Rattle.serde_json.specs.View.{view};
-ghost use Rattle.px_value.specs.KindView.{kind_of};
-ghost use Rattle.px_value.specs.View.{datum_of, slot_of, slots_of};
-ghost use Rattle.px_document.specs.Document.{bytes_of_hex, list_of, place_of};
+ghost use Rattle.px_column.specs.Prelude.{kind_of, datum_of, slot_of, slots_of};
+ghost use Rattle.px_document.specs.Document.{bytes_of_hex, short_list, place_of};
 ghost use Rattle.px_document.specs.Form.{Reads, ReadsBy, items};
-ghost use Rattle.px_value.specs.Option.{each};
+ghost use Rattle.px_column.specs.Option.{each};
 
 use crate::document::fault::DocumentFault;
 use crate::document::fields::{items, read_text};
@@ -32,8 +31,8 @@ fn read_bytes(alloc: Global, value: &Value) -> Result<ByteString, DocumentFault>
     Ok(ByteString::from_vec(bytes))
 }
 
-fn list_of(places: Vec<Option<Datum>>) -> Result<Datum, DocumentFault>
-    ensures { ReadsBy datum_of result (list_of (slots_of places.items)) }
+fn short_list(places: Vec<Option<Datum>>) -> Result<Datum, DocumentFault>
+    ensures { ReadsBy datum_of result (short_list (slots_of places.items)) }
 {
     if places.len() >= 1 << 32 {
         return Err(DocumentFault::BadDocument);
@@ -70,10 +69,10 @@ pub(crate) fn read_place(
 
 #[cycle(place)]
 fn read_list(alloc: Global, of: &DataType, value: &Value) -> Result<Datum, DocumentFault>
-    ensures { ReadsBy datum_of result (option_and_then list_of (option_and_then (each (place_of (kind_of of.now))) (items (view value.now)))) }
+    ensures { ReadsBy datum_of result (option_and_then short_list (option_and_then (each (place_of (kind_of of.now))) (items (view value.now)))) }
 {
     let values = items(value).ok_or(DocumentFault::BadDocument)?;
-    list_of(read_places(alloc, of, values)?)
+    short_list(read_places(alloc, of, values)?)
 }
 
 /// Each of these a place of the type.

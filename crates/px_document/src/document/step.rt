@@ -2,7 +2,7 @@
 ghost use Rattle.std.specs.Prelude.{[], ◌∷◌, codes, map, option_and_then, option_map};
 ghost use Rattle.std.specs.List.{list_all};
 ghost use Rattle.serde_json.specs.View.{view};
-ghost use Rattle.px_value.specs.Option.{each};
+ghost use Rattle.px_column.specs.Option.{each};
 ghost use Rattle.px_document.specs.ExprForm.{expr_of};
 ghost use Rattle.px_document.specs.Form.{ReadsBy, fields, items};
 ghost use Rattle.px_document.specs.Readable.{only_if};

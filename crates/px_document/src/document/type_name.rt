@@ -2,7 +2,7 @@
 ghost use Rattle.std.specs.Prelude.{◌≡◌, option_map, option_and_then};
 ghost use Rattle.serde_json.specs.Find.{as_str};
 ghost use Rattle.serde_json.specs.View.{view};
-ghost use Rattle.px_value.specs.KindView.{kind_of};
+ghost use Rattle.px_column.specs.Prelude.{kind_of};
 ghost use Rattle.px_document.specs.Document.{in_list, kind_named, kind_within, simple_kind};
 ghost use Rattle.px_document.specs.Form.{ReadsBy};
 

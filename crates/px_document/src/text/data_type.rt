@@ -1,6 +1,6 @@
 //! The names of types.
 ghost use Rattle.std.specs.Prelude.{◌≡◌, ◌++◌, OnOk};
-ghost use Rattle.px_value.specs.KindView.{kind_of};
+ghost use Rattle.px_column.specs.Prelude.{kind_of};
 ghost use Rattle.px_document.specs.Text.{in_quotes, kind_name};
 
 use px_column::DataType;

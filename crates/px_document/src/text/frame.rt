@@ -1,6 +1,6 @@
 //! The text of a frame.
 ghost use Rattle.std.specs.Prelude.{◌≡◌, ◌<◌, [], ◌∷◌, ◌++◌, All, OnOk, Ok, length};
-ghost use Rattle.px_value.specs.Answer.{Answers};
+ghost use Rattle.px_column.specs.Prelude.{Answers};
 ghost use Rattle.px_frame.specs.Frame.{height_of};
 ghost use Rattle.px_document.specs.Text.{names_line, row_line, rows_text, text_of, types_line};
 

@@ -1,8 +1,7 @@
 //! The text of values.
 ghost use Rattle.std.specs.Prelude.{◌≡◌, ◌++◌, OnOk};
 ghost use Rattle.std.specs.Fmt.{signed_decimal};
-ghost use Rattle.px_value.specs.Datum.{slots};
-ghost use Rattle.px_value.specs.LentView.{datum_of_ref, slot_of_ref};
+ghost use Rattle.px_column.specs.Prelude.{slots, datum_of_ref, slot_of_ref};
 ghost use Rattle.px_document.specs.Text.{array, datum_text, item_texts, slot_text};
 
 use crate::text::json::{push_comma, push_hexadecimal, push_quoted};

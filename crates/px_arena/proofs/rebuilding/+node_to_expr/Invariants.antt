@@ -6,8 +6,8 @@ use Rattle.px_arena.proofs.rebuilding.+node_to_expr.Given as goal
 abbrev pub decreases-node_to_expr : goal.decreases-node_to_expr
 decreases-node_to_expr l = 3 * l.node.0 + 2
 
-abbrev pub decreases-shared : goal.decreases-shared
-decreases-shared l = 3 * l.node.0 + 3
+abbrev pub decreases-share_expr : goal.decreases-share_expr
+decreases-share_expr l = 3 * l.node.0 + 3
 
 abbrev pub decreases-nodes_to_exprs : goal.decreases-nodes_to_exprs
 decreases-nodes_to_exprs l = 3 * l.before + 1

@@ -1,8 +1,7 @@
 use Rattle.std.proofs.Common.{rules, ◌≡◌, ◌+◌, ◌+ℤ◌, pos, Some, map}
 use Rattle.std.proofs.Common.{w64, to_z, of_z}
 use Rattle.std.specs.List.{range_with_len}
-use Rattle.px_value.specs.Datum.{integer}
-use Rattle.px_value.specs.View.{slots_of}
+use Rattle.px_column.specs.Prelude.{integer, slots_of}
 use Rattle.px_expr.proofs.Ranges.{row_more, rows_count}
 use Rattle.px_expr.proofs.range.integers.Goals as goal
 

@@ -1,7 +1,6 @@
 use Rattle.std.proofs.Common.{◌≡◌, ◌+ℤ◌, pos, Some, map}
 use Rattle.std.specs.List.{range_with_len}
-use Rattle.px_value.specs.Datum.{integer}
-use Rattle.px_value.specs.View.{slots_of}
+use Rattle.px_column.specs.Prelude.{integer, slots_of}
 use Rattle.px_expr.proofs.range.integers.Given as goal
 
 abbrev pub invariant-loop-place : goal.invariant-loop-place

@@ -1,8 +1,5 @@
 use Rattle.std.proofs.Common.{rules, ◌≡◌, ◌&&◌, ◌-ℤ◌, ◌^◌, true, nat_lt}
-use Rattle.px_value.specs.Datum.{integer}
-use Rattle.px_value.specs.Kind.{fits}
-use Rattle.px_value.specs.KindView.{kind_of}
-use Rattle.px_value.specs.View.{slots_of}
+use Rattle.px_column.specs.Prelude.{integer, fits, kind_of, slots_of}
 use Rattle.px_tree.specs.Node.{integers, natural}
 use Rattle.px_tree.specs.Typing.{is_range_kind}
 use Rattle.px_expr.proofs.Ranges.{range_made, few_enough, count_is}

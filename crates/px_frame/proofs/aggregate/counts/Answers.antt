@@ -2,8 +2,8 @@ use Rattle.std.proofs.Common.{◌≡◌, ◌∙◌, ◌<◌, ◌^◌, pos, Some,
 use Rattle.std.specs.Int.{w128, cast_signed}
 use Rattle.std.proofs.lemmas.Bool.Decides.{nat_tests}
 use Rattle.std.proofs.lemmas.Int.{ints}
-use Rattle.px_value.specs.Datum.{integer}
-use Rattle.px_value.specs.Kind.{uint32s, is_unsigned}
+use Rattle.px_column.specs.Prelude.{integer, uint32s}
+use Rattle.px_column.specs.Kind.{is_unsigned}
 use Rattle.px_frame.specs.Groups.{Group}
 use Rattle.px_frame.specs.GroupsView.{lent_group}
 use Rattle.px_frame.proofs.Made.{made_next}

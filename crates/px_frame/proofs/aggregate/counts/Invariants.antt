@@ -1,7 +1,5 @@
 use Rattle.std.proofs.Common.{◌≡◌, pos, Some, length, map, take, true, vec_len}
-use Rattle.px_value.specs.Datum.{integer}
-use Rattle.px_value.specs.Kind.{slots_fit, uint32s}
-use Rattle.px_value.specs.View.{slots_of}
+use Rattle.px_column.specs.Prelude.{integer, slots_fit, uint32s, slots_of}
 use Rattle.px_frame.proofs.aggregate.counts.Given as goal
 
 abbrev pub invariant-loop-index : goal.invariant-loop-index

@@ -1,6 +1,5 @@
 use Rattle.std.proofs.Common.{◌≡◌, ◌∙◌, Some, Ok, map, List, ap, subst}
-use Rattle.px_value.specs.Answer.{AnswersBy}
-use Rattle.px_value.specs.Series.{Series}
+use Rattle.px_column.specs.Prelude.{AnswersBy, Series}
 use Rattle.px_frame.specs.Frame.{taken_series}
 use Rattle.px_frame.specs.Groups.{Group, first_row}
 use Rattle.px_frame.proofs.Each.{few_firsts, firsts_in_all, key_columns}

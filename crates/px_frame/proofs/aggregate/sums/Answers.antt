@@ -1,9 +1,8 @@
 use Rattle.std.proofs.Common.{◌≡◌, ◌∙◌, Some, ap, arith, ℤ}
 use Rattle.std.specs.Int.{w128, cast_signed, cast_unsigned}
 use Rattle.std.proofs.lemmas.Int.{ints}
-use Rattle.px_value.specs.Datum.{integer}
-use Rattle.px_value.specs.KindView.{kind_of}
-use Rattle.px_operation.specs.Sum.{summed, wrapped, total}
+use Rattle.px_column.specs.Prelude.{integer, kind_of}
+use Rattle.px_column.specs.Sum.{summed, wrapped, total}
 use Rattle.px_frame.specs.Frame.{slots_at}
 use Rattle.px_frame.specs.Groups.{Group}
 use Rattle.px_frame.specs.GroupsView.{lent_group}

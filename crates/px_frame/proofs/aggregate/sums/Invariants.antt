@@ -1,8 +1,6 @@
 use Rattle.std.proofs.Common.{◌≡◌, map, take, true, vec_len}
-use Rattle.px_value.specs.KindView.{kind_of}
-use Rattle.px_operation.specs.Sum.{summed}
-use Rattle.px_value.specs.Kind.{slots_fit}
-use Rattle.px_value.specs.View.{slots_of}
+use Rattle.px_column.specs.Prelude.{kind_of, slots_fit, slots_of}
+use Rattle.px_column.specs.Sum.{summed}
 use Rattle.px_frame.specs.Frame.{slots_at}
 use Rattle.px_frame.proofs.aggregate.sums.Given as goal
 

@@ -1,6 +1,6 @@
 use Rattle.std.proofs.Common.{◌≡◌, length, map, vec_len}
 use Rattle.std.specs.List.{IsDistinct}
-use Rattle.px_value.specs.Equality.{row_eq}
+use Rattle.px_column.specs.Equality.{row_eq}
 use Rattle.px_column.specs.Key.{keys_of}
 use Rattle.px_frame.specs.Enter.{AreStarted}
 use Rattle.px_frame.specs.Parts.{distinct, rows_of_keys}

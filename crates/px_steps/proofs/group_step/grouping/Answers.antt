@@ -1,5 +1,5 @@
 use Rattle.std.proofs.Common.{Result, subst}
-use Rattle.px_value.specs.Answer.{Answers}
+use Rattle.px_column.specs.Prelude.{Answers}
 use Rattle.px_value.specs.declared.error.PxError.{PxError}
 use Rattle.px_frame.specs.Groups.{Groups}
 use Rattle.px_steps.proofs.Columns.{grouped_by_keys}

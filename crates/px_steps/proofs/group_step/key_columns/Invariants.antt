@@ -1,6 +1,6 @@
 use Rattle.std.proofs.Common.{◌≡◌, map, drop}
 use Rattle.std.specs.List.{flat_map}
-use Rattle.px_value.specs.Option.{each}
+use Rattle.px_column.specs.Option.{each}
 use Rattle.px_frame.specs.External.{alone}
 use Rattle.px_tree.specs.View.{tree}
 use Rattle.px_steps.specs.Finds.{key_faults}

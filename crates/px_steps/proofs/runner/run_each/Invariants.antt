@@ -1,6 +1,6 @@
 use Rattle.std.proofs.Common.{◌≡◌, ◌+◌, List, Result, drop, map, true}
 use Rattle.std.specs.List.{list_all}
-use Rattle.px_value.specs.Series.{Series}
+use Rattle.px_column.specs.Prelude.{Series}
 use Rattle.px_value.specs.declared.error.PxError.{PxError}
 use Rattle.px_tree.specs.Built.{is_built}
 use Rattle.px_steps.specs.Causes.{StepsAnswer}

@@ -1,7 +1,6 @@
 use Rattle.std.proofs.Common.{◌≡◌, drop, not}
 use Rattle.std.specs.List.{list_any}
-use Rattle.px_value.specs.Kind.{kind_eq}
-use Rattle.px_value.specs.KindView.{kind_of}
+use Rattle.px_column.specs.Prelude.{kind_eq, kind_of}
 use Rattle.px_typing.specs.Facts.{kinds_of}
 use Rattle.px_typing.specs.FactsView.{all_facts_of}
 use Rattle.px_typing.proofs.functions.have_type.Given as goal

@@ -1,5 +1,5 @@
 use Rattle.std.proofs.Common.{◌≡◌, map}
-use Rattle.px_value.specs.Equality.{row_eq}
+use Rattle.px_column.specs.Equality.{row_eq}
 use Rattle.px_column.specs.Key.{key_at, keys_of}
 use Rattle.px_frame.specs.Parts.{distinct}
 use Rattle.px_vectors.proofs.plain.first_rows.Given as goal

@@ -1,6 +1,6 @@
 use Rattle.std.proofs.Common.{◌≡◌, drop, map}
 use Rattle.std.specs.List.{list_any}
-use Rattle.px_value.specs.Equality.{row_eq}
+use Rattle.px_column.specs.Equality.{row_eq}
 use Rattle.px_column.specs.Key.{key_at}
 use Rattle.px_vectors.proofs.plain.has_key_of.Given as goal
 

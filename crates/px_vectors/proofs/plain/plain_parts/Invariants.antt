@@ -1,5 +1,5 @@
 use Rattle.std.proofs.Common.{◌≡◌, ◌++◌, drop, map}
-use Rattle.px_value.specs.Equality.{row_eq}
+use Rattle.px_column.specs.Equality.{row_eq}
 use Rattle.px_column.specs.Key.{key_at, keys_of}
 use Rattle.px_frame.specs.Parts.{rows_of_keys}
 use Rattle.px_vectors.proofs.plain.plain_parts.Given as goal

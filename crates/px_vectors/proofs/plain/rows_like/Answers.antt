@@ -1,5 +1,5 @@
 use Rattle.std.proofs.Common.{◌≡◌, ◌∙◌, ap, true, false}
-use Rattle.px_value.specs.Equality.{row_eq}
+use Rattle.px_column.specs.Equality.{row_eq}
 use Rattle.px_column.specs.Key.{key_at}
 use Rattle.px_vectors.proofs.PlainRows.{row_added, row_passed}
 use Rattle.px_vectors.proofs.plain.rows_like.Goals as goal

@@ -1,6 +1,6 @@
 use Rattle.std.proofs.Common.{◌≡◌, drop, map}
 use Rattle.std.specs.List.{flat_map}
-use Rattle.px_value.specs.Option.{each}
+use Rattle.px_column.specs.Option.{each}
 use Rattle.px_steps.specs.Direct.{agg_refusals, aggregated_on}
 use Rattle.px_document.specs.Form.{with_front}
 use Rattle.px_vectors.specs.PlainStep.{tree_of}

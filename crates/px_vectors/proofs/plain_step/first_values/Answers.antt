@@ -1,6 +1,5 @@
 use Rattle.std.proofs.Common.{◌∙◌, ap, subst, map, Ok, List}
-use Rattle.px_value.specs.Answer.{AnswersBy}
-use Rattle.px_value.specs.Series.{Series}
+use Rattle.px_column.specs.Prelude.{AnswersBy, Series}
 use Rattle.px_frame.specs.Frame.{subframe}
 use Rattle.px_vectors.proofs.PlainValues.{first_keys}
 use Rattle.px_vectors.proofs.Told.{told}

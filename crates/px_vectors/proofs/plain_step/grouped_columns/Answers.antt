@@ -2,7 +2,7 @@ use Rattle.std.proofs.Common.{◌≡◌, ◌<◌, ◌^◌, ◌∙◌, Vec, Globa
 use Rattle.std.specs.List.{All}
 use Rattle.px_frame.specs.Frame.{height_of}
 use Rattle.px_frame.specs.Parts.{parts_of}
-use Rattle.px_value.specs.Option.{each}
+use Rattle.px_column.specs.Option.{each}
 use Rattle.px_steps.specs.Direct.{aggregated_on}
 use Rattle.px_steps.specs.Plain.{key_values}
 use Rattle.px_vectors.specs.PlainStep.{IsPart, tree_of}

@@ -1,7 +1,7 @@
 use Rattle.std.proofs.Common.{◌≡◌, ◌∙◌, length, ap, sym, arith, Some}
 use Rattle.std.specs.List.{range_with_len}
 use Rattle.std.proofs.lemmas.List.FromFn.{length-range_with_len}
-use Rattle.px_value.specs.Kind.{is_list_kind}
+use Rattle.px_column.specs.Prelude.{is_list_kind}
 use Rattle.px_frame.specs.Frame.{series_at, slots_at}
 use Rattle.px_vectors.proofs.PlainColumns.{all_slots}
 use Rattle.px_vectors.proofs.PlainKeys.{key_found, key_passes}

@@ -1,7 +1,7 @@
 use Rattle.std.proofs.Common.{◌≡◌, drop, map}
 use Rattle.std.specs.List.{flat_map}
 use Rattle.px_tree.specs.Tree.{column}
-use Rattle.px_value.specs.Option.{each}
+use Rattle.px_column.specs.Option.{each}
 use Rattle.px_steps.specs.Direct.{key_on, key_refusals}
 use Rattle.px_document.specs.Form.{with_front}
 use Rattle.px_vectors.proofs.plain_step.key_columns.Given as goal

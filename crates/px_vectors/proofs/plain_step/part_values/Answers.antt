@@ -1,7 +1,6 @@
 use Rattle.std.proofs.Common.{◌≡◌, ◌∙◌, ap, None, List, arith}
 use Rattle.std.specs.Option.{option_map_or}
-use Rattle.px_value.specs.Series.{Series}
-use Rattle.px_value.specs.View.{slot_of}
+use Rattle.px_column.specs.Prelude.{Series, slot_of}
 use Rattle.px_frame.specs.Cell.{value_of_cell}
 use Rattle.px_frame.specs.Frame.{subframe}
 use Rattle.px_steps.specs.Direct.{kind_on, value_on, value_on_part}

@@ -1,6 +1,5 @@
 use Rattle.std.proofs.Common.{◌≡◌, ◌++◌, drop, map, true, Some, vec_len}
-use Rattle.px_value.specs.Kind.{Kind, slots_fit}
-use Rattle.px_value.specs.View.{slots_of}
+use Rattle.px_column.specs.Prelude.{Kind, slots_fit, slots_of}
 use Rattle.px_steps.specs.Direct.{kind_on, value_on_part}
 use Rattle.px_vectors.specs.PlainStep.{tree_of}
 use Rattle.px_vectors.proofs.plain_step.part_values.Given as goal

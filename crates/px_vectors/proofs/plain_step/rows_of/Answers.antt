@@ -1,9 +1,5 @@
 use Rattle.std.proofs.Common.{◌≡◌, ◌∙◌, subst, true, List}
-use Rattle.px_value.specs.Answer.{Answers}
-use Rattle.px_value.specs.Datum.{Slot}
-use Rattle.px_value.specs.Kind.{slots_fit}
-use Rattle.px_value.specs.KindView.{kind_of}
-use Rattle.px_value.specs.View.{slots_of}
+use Rattle.px_column.specs.Prelude.{Answers, Slot, slots_fit, kind_of, slots_of}
 use Rattle.px_frame.specs.Frame.{series_at}
 use Rattle.px_vectors.proofs.PlainColumns.{made_as}
 use Rattle.px_vectors.proofs.Told.{told}

@@ -3,10 +3,8 @@ use Rattle.std.specs.Int.{w128, cast_signed, cast_unsigned}
 use Rattle.std.specs.List.{range_with_len}
 use Rattle.std.proofs.lemmas.Int.{ints}
 use Rattle.std.proofs.lemmas.List.FromFn.{length-range_with_len}
-use Rattle.px_value.specs.Datum.{integer}
-use Rattle.px_value.specs.KindView.{kind_of}
-use Rattle.px_operation.specs.Sum.{sum_kind, total, wrapped}
-use Rattle.px_value.specs.View.{datum_of}
+use Rattle.px_column.specs.Prelude.{integer, kind_of, datum_of}
+use Rattle.px_column.specs.Sum.{sum_kind, total, wrapped}
 use Rattle.px_frame.specs.Frame.{slots_at}
 use Rattle.px_vectors.proofs.PlainColumns.{all_slots}
 use Rattle.px_vectors.proofs.PlainValues.{sum_found}

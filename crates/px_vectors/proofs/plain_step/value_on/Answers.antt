@@ -1,7 +1,6 @@
 use Rattle.std.proofs.Common.{sym, subst, Ok, None}
 use Rattle.std.specs.Option.{option_map_or}
-use Rattle.px_value.specs.Answer.{AnswersBy}
-use Rattle.px_value.specs.View.{slot_of}
+use Rattle.px_column.specs.Prelude.{AnswersBy, slot_of}
 use Rattle.px_frame.specs.Cell.{value_of_cell}
 use Rattle.px_steps.specs.Direct.{value_on}
 use Rattle.px_vectors.specs.PlainStep.{tree_of}

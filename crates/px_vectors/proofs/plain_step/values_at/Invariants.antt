@@ -1,6 +1,5 @@
 use Rattle.std.proofs.Common.{◌≡◌, ◌++◌, drop, true, vec_len}
-use Rattle.px_value.specs.Kind.{slots_fit}
-use Rattle.px_value.specs.View.{slots_of}
+use Rattle.px_column.specs.Prelude.{slots_fit, slots_of}
 use Rattle.px_frame.specs.Frame.{slots_at}
 use Rattle.px_vectors.proofs.plain_step.values_at.Given as goal
 

@@ -1,7 +1,7 @@
 use Rattle.std.proofs.Common.{◌≡◌, map, drop}
 use Rattle.serde_json.specs.View.{view}
 use Rattle.px_tree.specs.View.{tree}
-use Rattle.px_value.specs.Option.{each}
+use Rattle.px_column.specs.Option.{each}
 use Rattle.px_document.specs.ExprForm.{expr_of}
 use Rattle.px_document.specs.Form.{with_front}
 use Rattle.px_document.specs.Readable.{only_if}

@@ -1,9 +1,7 @@
 use Rattle.std.proofs.Common.{◌≡◌, sym, arith}
 use Rattle.std.proofs.lemmas.Grind.{common_steps}
 use Rattle.serde_json.specs.View.{view}
-use Rattle.px_value.specs.Kind.{lists}
-use Rattle.px_value.specs.KindView.{kind_of}
-use Rattle.px_value.specs.View.{datum_of}
+use Rattle.px_column.specs.Prelude.{lists, kind_of, datum_of}
 use Rattle.px_document.proofs.Readings.{list_taken, list_missed}
 use Rattle.px_document.proofs.document.place.+place.Goals as goal
 

@@ -1,10 +1,9 @@
 use Rattle.std.proofs.Common.{◌≡◌, ◌+◌, map, drop}
 use Rattle.serde_json.specs.View.{view}
-use Rattle.px_value.specs.Kind.{kind_number}
-use Rattle.px_value.specs.KindView.{kind_of}
-use Rattle.px_value.specs.View.{slots_of}
+use Rattle.px_column.specs.Kind.{kind_number}
+use Rattle.px_column.specs.Prelude.{kind_of, slots_of}
 use Rattle.px_document.specs.Document.{place_of}
-use Rattle.px_value.specs.Option.{each}
+use Rattle.px_column.specs.Option.{each}
 use Rattle.px_document.specs.Form.{with_front}
 use Rattle.px_document.proofs.document.place.+place.Given as goal
 

@@ -1,6 +1,6 @@
 use Rattle.std.proofs.Common.{◌≡◌, map, drop}
 use Rattle.serde_json.specs.View.{view}
-use Rattle.px_value.specs.Option.{each}
+use Rattle.px_column.specs.Option.{each}
 use Rattle.px_document.specs.Form.{with_front}
 use Rattle.px_document.specs.Readable.{only_if}
 use Rattle.px_tree.specs.Built.{is_built}

@@ -1,6 +1,6 @@
 use Rattle.std.proofs.Common.{◌≡◌, ◌+◌, ◌*◌, ◌++◌, drop}
-use Rattle.px_value.specs.Datum.{slots, weight, slot_weight, list_weight}
-use Rattle.px_value.specs.LentView.{datum_of_ref, slot_of_ref}
+use Rattle.px_column.specs.Prelude.{slots, datum_of_ref, slot_of_ref}
+use Rattle.px_column.specs.Datum.{weight, slot_weight, list_weight}
 use Rattle.px_document.specs.Text.{item_texts}
 use Rattle.std.specs.List.{join_with_byte}
 use Rattle.px_document.proofs.Separated.{separated}

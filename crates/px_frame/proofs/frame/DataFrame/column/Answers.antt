@@ -1,6 +1,6 @@
 use Rattle.std.proofs.Common.{◌≡◌, ◌∙◌, ap, arith, ℕ, List, Some, get_or}
 use Rattle.std.specs.List.{position}
-use Rattle.px_value.specs.Series.{Series}
+use Rattle.px_column.specs.Prelude.{Series}
 use Rattle.px_frame.specs.Frame.{names_of, name_eq, look}
 use Rattle.px_frame.proofs.Looking.{looked_up, looked_name, looked_height, not_looked_up, some_found, length_names}
 use Rattle.px_frame.proofs.frame.DataFrame.column.Goals as goal

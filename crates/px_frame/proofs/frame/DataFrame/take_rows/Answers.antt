@@ -1,6 +1,5 @@
 use Rattle.std.proofs.Common.{◌≡◌, List, Some, Result, map, subst}
-use Rattle.px_value.specs.Answer.{Answers}
-use Rattle.px_value.specs.Series.{Series}
+use Rattle.px_column.specs.Prelude.{Answers, Series}
 use Rattle.px_value.specs.declared.error.PxError.{PxError}
 use Rattle.px_frame.specs.Frame.{IsFrame, taken_series}
 use Rattle.px_frame.proofs.Rows.{in_all, frame_of-rows}

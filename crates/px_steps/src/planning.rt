@@ -26,7 +26,7 @@ use std::sync::ledger::Ledger;
 
 /// The node of an expression over a schema, or its first refusal in its place.
 #[tactic(auto, using(crate::proofs::Selected::planned_meets))]
-pub(crate) fn planned(
+pub(crate) fn plan_expr(
     alloc: Global,
     expr: &Expr,
     schema: &SchemaRef,

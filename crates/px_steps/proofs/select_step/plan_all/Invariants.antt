@@ -6,7 +6,7 @@ use Rattle.px_expr.specs.Plan.{planned_over}
 use Rattle.px_tree.specs.Typing.{refusals_of}
 use Rattle.px_tree.specs.View.{tree}
 use Rattle.px_tree.specs.declared.context.Context.TheVariants.{Default}
-use Rattle.px_steps.proofs.select_step.all_planned.Given as goal
+use Rattle.px_steps.proofs.select_step.plan_all.Given as goal
 
 abbrev pub invariant-loop-expr : goal.invariant-loop-expr
 invariant-loop-expr l = record {

@@ -2,8 +2,7 @@ use Rattle.std.proofs.Common.{◌≡◌, ◌∷◌, ◌++◌, [], ◌∙◌, Lis
 use Rattle.std.proofs.lemmas.List.{map_push}
 use Rattle.std.proofs.lemmas.Option.{get_or_from_slice_get, slice_get_within}
 use Rattle.std.proofs.lemmas.Result.{err_from_is_err_and}
-use Rattle.px_value.specs.Kind.{slot_fits, slots_fit}
-use Rattle.px_value.specs.View.{slot_of, slots_of}
+use Rattle.px_column.specs.Prelude.{slot_fits, slots_fit, slot_of, slots_of}
 use Rattle.px_expr.specs.NodeView.{plan_of}
 use Rattle.px_frame.specs.External.{alone, rows_of_frame}
 use Rattle.px_frame.specs.Frame.{are_below}
@@ -13,7 +12,7 @@ use Rattle.px_tree.specs.Value.{faults_on}
 use Rattle.px_steps.specs.Plain.{grouped_kind, value_on_part}
 use Rattle.px_steps.proofs.Grouping.{group_rows, part_lacks}
 use Rattle.px_steps.proofs.Members.{In, in_here, sound_next, values_next}
-use Rattle.px_steps.proofs.aggregated.values_of_groups.Goals as goal
+use Rattle.px_steps.proofs.aggregation.values_of_groups.Goals as goal
 use Rattle.px_value.proofs.FitLaws.{all_push}
 
 pub value_of_rows-requires-clause-below : goal.value_of_rows-requires-clause-below

@@ -1,7 +1,6 @@
 use Rattle.std.proofs.Common.{◌≡◌, ◌∙◌, List, ap, sym, subst, option_map}
 use Rattle.std.proofs.lemmas.Result.{err_from_is_err_and}
-use Rattle.px_value.specs.Series.{Series}
-use Rattle.px_value.specs.View.{slot_of}
+use Rattle.px_column.specs.Prelude.{Series, slot_of}
 use Rattle.px_expr.specs.NodeView.{plan_of}
 use Rattle.px_expr.specs.Value.{IsCause}
 use Rattle.px_frame.specs.Cell.{value_of_cell}
@@ -12,7 +11,7 @@ use Rattle.px_tree.specs.Value.{faults_on, value_on}
 use Rattle.px_steps.specs.Plain.{named_value}
 use Rattle.px_steps.proofs.Grouping.{accepted_lacks, accepted_on_rows, finds_answer, fits_grouped, value_there}
 use Rattle.px_steps.proofs.Members.{if_ok}
-use Rattle.px_steps.proofs.aggregated.value_of_rows.Goals as goal
+use Rattle.px_steps.proofs.aggregation.value_of_rows.Goals as goal
 
 pub returns-in_err-cell-clause-value : goal.returns-in_err-cell-clause-value
 returns-in_err-cell-clause-value g c =

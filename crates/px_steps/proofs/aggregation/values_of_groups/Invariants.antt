@@ -1,7 +1,6 @@
 use Rattle.std.proofs.Common.{◌≡◌, Some, drop, map, true, vec_len}
-use Rattle.px_value.specs.Kind.{Kind, slots_fit}
-use Rattle.px_value.specs.Option.{each}
-use Rattle.px_value.specs.View.{slots_of}
+use Rattle.px_column.specs.Prelude.{Kind, slots_fit, slots_of}
+use Rattle.px_column.specs.Option.{each}
 use Rattle.px_expr.specs.NodeView.{plan_of}
 use Rattle.px_frame.specs.External.{alone}
 use Rattle.px_frame.specs.Groups.{rows_of}
@@ -10,7 +9,7 @@ use Rattle.px_tree.specs.Typing.{kind_in}
 use Rattle.px_steps.specs.Finds.{part_faults}
 use Rattle.px_document.specs.Form.{with_front}
 use Rattle.px_steps.specs.Plain.{grouped_kind, value_on_part}
-use Rattle.px_steps.proofs.aggregated.values_of_groups.Given as goal
+use Rattle.px_steps.proofs.aggregation.values_of_groups.Given as goal
 
 abbrev pub invariant-loop-index : goal.invariant-loop-index
 invariant-loop-index g l = record {

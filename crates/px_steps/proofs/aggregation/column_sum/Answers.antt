@@ -1,6 +1,6 @@
 use Rattle.std.proofs.Common.{sym}
 use Rattle.px_steps.proofs.Named.{sum_meets}
-use Rattle.px_steps.proofs.aggregated.sum_named.Goals as goal
+use Rattle.px_steps.proofs.aggregation.column_sum.Goals as goal
 
 pub returns-in-Some : goal.returns-in-Some
 returns-in-Some g c =

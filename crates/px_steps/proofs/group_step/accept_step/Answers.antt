@@ -5,7 +5,7 @@ use Rattle.px_frame.specs.Schema.{column_field}
 use Rattle.px_value.specs.declared.error.PxError.TheVariants.{OutOfMemory}
 use Rattle.px_tree.specs.View.{tree}
 use Rattle.px_steps.proofs.GroupStep.{aggs_first, key_missing, key_there, keys_first, names_first, none_first}
-use Rattle.px_steps.proofs.group_step.accepted_scope.Goals as goal
+use Rattle.px_steps.proofs.group_step.accept_step.Goals as goal
 
 pub returns-then-is_empty : goal.returns-then-is_empty
 returns-then-is_empty c = key_missing c.args.keys.now (map tree c.args.aggs.now) (alone c.args.frame.now) (sym c.is_empty.ensures ∙ c.if-is_empty.true)

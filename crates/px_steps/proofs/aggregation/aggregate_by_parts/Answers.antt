@@ -1,8 +1,6 @@
 use Rattle.std.proofs.Common.{◌≡◌, ◌∙◌, ap, map, option_map, sym}
-use Rattle.px_value.specs.Kind.{slots_fit}
-use Rattle.px_value.specs.KindView.{kind_of}
-use Rattle.px_value.specs.Option.{each}
-use Rattle.px_value.specs.View.{slots_of}
+use Rattle.px_column.specs.Prelude.{slots_fit, kind_of, slots_of}
+use Rattle.px_column.specs.Option.{each}
 use Rattle.px_expr.specs.NodeView.{plan_of}
 use Rattle.px_expr.specs.Plan.{planned_over}
 use Rattle.px_expr.specs.Planned.{Planned}
@@ -16,7 +14,7 @@ use Rattle.px_tree.specs.View.{tree}
 use Rattle.px_steps.specs.Finds.{part_faults}
 use Rattle.px_steps.specs.Plain.{grouped_kind, value_on_part}
 use Rattle.px_steps.proofs.Grouping.{accepted_made, column_finds, less_refused}
-use Rattle.px_steps.proofs.aggregated.aggregated_by_parts.Goals as goal
+use Rattle.px_steps.proofs.aggregation.aggregate_by_parts.Goals as goal
 
 pub values_of_groups-requires-clause-accepted : goal.values_of_groups-requires-clause-accepted
 values_of_groups-requires-clause-accepted g c =

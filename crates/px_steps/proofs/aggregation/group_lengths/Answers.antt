@@ -3,7 +3,7 @@ use Rattle.px_frame.specs.Aggregate.{count_column}
 use Rattle.px_tree.specs.Shape.{name_of}
 use Rattle.px_tree.specs.Tree.{len}
 use Rattle.px_steps.proofs.Named.{lengths_meet}
-use Rattle.px_steps.proofs.aggregated.group_lengths.Goals as goal
+use Rattle.px_steps.proofs.aggregation.group_lengths.Goals as goal
 
 pub returns : goal.returns
 returns c =

@@ -1,11 +1,7 @@
 //! An aggregation's value for each group of rows.
 ghost use Rattle.std.specs.Prelude.{◌≡◌, ◌<◌, ◌^◌, ◌∷◌, [], Some, IfOk, IfSome, Ok, OnOk, option_map, length, map, true, vec_len};
-ghost use Rattle.px_value.specs.Answer.{AnswersBy};
-ghost use Rattle.px_value.specs.Kind.{Kind, slot_fits, slots_fit};
-ghost use Rattle.px_value.specs.KindView.{kind_of};
-ghost use Rattle.px_value.specs.Option.{each};
-ghost use Rattle.px_value.specs.Series.{slot_at};
-ghost use Rattle.px_value.specs.View.{slot_of, slots_of};
+ghost use Rattle.px_column.specs.Prelude.{AnswersBy, Kind, slot_fits, slots_fit, kind_of, slot_at, slot_of, slots_of};
+ghost use Rattle.px_column.specs.Option.{each};
 ghost use Rattle.px_value.specs.declared.method.GroupByMethod.TheVariants.{Sum};
 ghost use Rattle.px_tree.specs.Built.{is_built_tree};
 ghost use Rattle.px_expr.specs.NodeView.{plan_of};
@@ -27,7 +23,7 @@ ghost use Rattle.px_steps.specs.Finds.{Finds, FindsBy, FitsGrouped, IsAccepted, 
 ghost use Rattle.px_steps.specs.Meets.{Meets, MeetsBy};
 ghost use Rattle.px_steps.specs.Plain.{agg_refusals, aggregated_on, grouped_kind, value_on_part};
 
-use crate::planned::{cell_on, planned};
+use crate::planning::{cell_on, plan_expr};
 use px_column::{Column, DataType, GroupByMethod, Name, Px, PxError, Steps, Value};
 use px_expr::{PhysExpr, PhysicalExpr};
 use px_frame::{Cell, DataFrame, GroupPositions, SchemaRef, agg_sum};
@@ -37,7 +33,7 @@ use std::alloc::Global;
 use std::sync::ledger::Ledger;
 
 /// The sum of the column of a name, for each group.
-fn sum_named<L: Ledger>(
+fn column_sum<L: Ledger>(
     alloc: Global,
     frame: &DataFrame,
     groups: &GroupPositions,
@@ -185,7 +181,7 @@ fn grouped_type(alloc: Global, expr: &Expr, schema: &SchemaRef, as_unit: bool) -
 }
 
 /// An aggregation's value for each group, from the frame of each group's rows.
-fn aggregated_by_parts<L: Ledger, M: Ledger>(
+fn aggregate_by_parts<L: Ledger, M: Ledger>(
     alloc: Global,
     frame: &DataFrame,
     groups: &GroupPositions,
@@ -204,7 +200,7 @@ fn aggregated_by_parts<L: Ledger, M: Ledger>(
     ensures state { state.new ≡ state.old }
     ensures grouped { groupings.new ≡ groupings.old }
 {
-    let node = planned(alloc, expr, schema, Context::Aggregation)?;
+    let node = plan_expr(alloc, expr, schema, Context::Aggregation)?;
     let name = output_name(alloc, expr)?;
     let dtype = grouped_type(alloc, expr, schema, node.is_scalar())?;
     let values = values_of_groups(alloc, frame, groups, &node, state, kernels, groupings)?;
@@ -213,7 +209,7 @@ fn aggregated_by_parts<L: Ledger, M: Ledger>(
 
 /// An aggregation's value for each group: sums of a column and lengths over the groups in place, all
 /// others from the frame of each group's rows.
-pub(crate) fn aggregated<L: Ledger, M: Ledger>(
+pub(crate) fn aggregate<L: Ledger, M: Ledger>(
     alloc: Global,
     frame: &DataFrame,
     groups: &GroupPositions,
@@ -237,8 +233,8 @@ pub(crate) fn aggregated<L: Ledger, M: Ledger>(
         return group_lengths(alloc, frame, groups);
     }
     match summed_name(expr) {
-        Some(name) => sum_named(alloc, frame, groups, name, kernels),
-        None => aggregated_by_parts(
+        Some(name) => column_sum(alloc, frame, groups, name, kernels),
+        None => aggregate_by_parts(
             alloc, frame, groups, expr, schema, state, kernels, groupings,
         ),
     }

@@ -8,7 +8,7 @@ use Rattle.px_tree.specs.View.{tree}
 use Rattle.px_steps.specs.Finds.{Finds, part_faults, part_frames}
 use Rattle.px_steps.specs.Plain.{agg_refusals, aggregated_on}
 use Rattle.px_steps.proofs.Grouping.{lengths_find, sum_finds}
-use Rattle.px_steps.proofs.aggregated.aggregated.Goals as goal
+use Rattle.px_steps.proofs.aggregation.aggregate.Goals as goal
 
 pub returns-then-is_length-clause-answer : goal.returns-then-is_length-clause-answer
 returns-then-is_length-clause-answer g c =
@@ -25,8 +25,8 @@ returns-in-Some g c =
     let n = c.in-Some.name.now in
     let is : tree c.args.expr.now ≡ agg Sum (column n) = c.in-Some.ensures in
     record {
-      answer = subst (λ (t : Tree). Finds c.sum_named.result (aggregated_on F parts t) (part_faults F parts t) (size_on t (part_frames F parts))) (sym is)
-          (sum_finds n c.args.frame.now parts c.sum_named.result _ (ap (agg_refusals F) (sym is) ∙ c.requires.accepted) c.sum_named.ensures);
+      answer = subst (λ (t : Tree). Finds c.column_sum.result (aggregated_on F parts t) (part_faults F parts t) (size_on t (part_frames F parts))) (sym is)
+          (sum_finds n c.args.frame.now parts c.column_sum.result _ (ap (agg_refusals F) (sym is) ∙ c.requires.accepted) c.column_sum.ensures);
       state = refl;
       grouped = refl;
     }

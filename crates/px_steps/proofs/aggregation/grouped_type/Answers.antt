@@ -2,7 +2,7 @@ use Rattle.std.proofs.lemmas.Result.{err_from_is_err_and}
 use Rattle.px_tree.specs.View.{tree}
 use Rattle.px_tree.specs.declared.context.Context.TheVariants.{Aggregation}
 use Rattle.px_steps.proofs.Grouping.{no_cause, type_memory}
-use Rattle.px_steps.proofs.aggregated.grouped_type.Goals as goal
+use Rattle.px_steps.proofs.aggregation.grouped_type.Goals as goal
 
 pub returns-in_err-dtype : goal.returns-in_err-dtype
 returns-in_err-dtype c =

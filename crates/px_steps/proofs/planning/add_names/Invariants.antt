@@ -2,7 +2,7 @@ use Rattle.std.proofs.Common.{◌≡◌, ◌++◌, map, drop}
 use Rattle.px_frame.specs.Frame.{first_repeat}
 use Rattle.px_tree.specs.Shape.{name_of}
 use Rattle.px_tree.specs.View.{tree}
-use Rattle.px_steps.proofs.planned.add_names.Given as goal
+use Rattle.px_steps.proofs.planning.add_names.Given as goal
 
 abbrev pub invariant-loop-expr : goal.invariant-loop-expr
 invariant-loop-expr l = record {
