@@ -36,8 +36,14 @@ abbrev pub IsTooLong : Option (List ℕ) → Option (List ℕ) → Type 0
 IsTooLong None new = new ≡ None
 IsTooLong (Some b) new = (2 ^ 26 ≤ length b) × (new ≡ Some (drop (2 ^ 26) b))
 
--- what each refusal says of the bytes left before and after, and of the counts of faults
+-- a front of at most 2^26 of the bytes left was given, and the rest is left
+abbrev pub GivesFront : Option (List ℕ) → Option (List ℕ) → Type 0
+GivesFront None new = new ≡ None
+GivesFront (Some b) new = (n : ℕ) × (n ≤ 2 ^ 26) × (new ≡ Some (drop n b))
+
+-- what each refusal says of the bytes left before and after, and of the count of faults: a failed read
+-- raised it, and else it is as it was
 abbrev pub Stops : ReadEnd → Option (List ℕ) → Option (List ℕ) → ℕ → ℕ → Type 0
-Stops TooLong old new before now = IsTooLong old new
+Stops TooLong old new before now = IsTooLong old new × (now ≡ before)
 Stops Failed old new before now = Rose before now
-Stops OutOfMemory old new before now = Unit {0}
+Stops OutOfMemory old new before now = now ≡ before

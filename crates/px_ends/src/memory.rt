@@ -1,5 +1,5 @@
 //! A source and a sink over memory, which fail where they are told to.
-ghost use Rattle.std.specs.Prelude.{◌≡◌, ◌<◌, ◌≤◌, [], Ok, length, IfOk, OnErr};
+ghost use Rattle.std.specs.Prelude.{◌≡◌, ◌<◌, ◌≤◌, ◌⊎◌, [], Ok, length, IfOk, OnOk, OnErr};
 ghost use Rattle.std.specs.Result.{result_ok};
 ghost use Rattle.px_value.specs.Answer.{Answers};
 ghost use Rattle.px_ends.specs.Ends.{Gives, Takes, Rose};
@@ -111,6 +111,7 @@ impl Source for MemorySource {
     fn read(&mut self, buf: &mut [u8]) -> Result<usize, SourceFailed>
         ensures within { IfOk result (λ n. n ≤ length buf.new) }
         ensures gives { IfOk result (λ n. Gives n buf.new (Some self.old.rest) (Some self.new.rest)) }
+        ensures steady { OnOk result (self.new.faults ≡ self.old.faults) }
         ensures kept { OnErr result (self.new.rest ≡ self.old.rest) }
         ensures rose { OnErr result (Rose self.old.faults self.new.faults) }
         ensures counted { self.old.faults ≤ self.new.faults }
@@ -176,6 +177,8 @@ impl Sink for MemorySink {
         ensures takes { IfOk result (λ n. Takes n piece.now (Some self.old.bytes) (Some self.new.bytes)) }
         ensures nothing { IfOk result (λ n.
             n ≡ 0 → 0 < length piece.now → Rose self.old.faults self.new.faults) }
+        ensures steady { IfOk result (λ n.
+            (0 < n) ⊎ (length piece.now ≡ 0) → self.new.faults ≡ self.old.faults) }
         ensures kept { OnErr result (self.new.bytes ≡ self.old.bytes) }
         ensures rose { OnErr result (Rose self.old.faults self.new.faults) }
         ensures counted { self.old.faults ≤ self.new.faults }

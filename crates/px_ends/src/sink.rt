@@ -1,5 +1,5 @@
 //! Where the bytes of a document go.
-ghost use Rattle.std.specs.Prelude.{◌≡◌, ◌<◌, ◌≤◌, ℕ, List, Option, length, IfOk, OnErr};
+ghost use Rattle.std.specs.Prelude.{◌≡◌, ◌<◌, ◌≤◌, ◌⊎◌, ℕ, List, Option, length, IfOk, OnErr};
 ghost use Rattle.px_ends.specs.Ends.{Takes, Rose};
 
 /// A write failed.
@@ -16,12 +16,14 @@ pub trait Sink {
 
     /// Writes some bytes from the front of the piece and says how many. To take nothing of a piece
     /// that is not empty counts as a fault. `SinkFailed` where the write failed: it took nothing, and
-    /// counts as a fault.
+    /// counts as a fault. Any other write counts as none.
     fn write(&mut self, piece: &[u8]) -> Result<usize, SinkFailed>
         ensures within { IfOk result (λ n. n ≤ length piece.now) }
         ensures takes { IfOk result (λ n. Takes n piece.now (taken self.old) (taken self.new)) }
         ensures nothing { IfOk result (λ n.
             n ≡ 0 → 0 < length piece.now → Rose (faults self.old) (faults self.new)) }
+        ensures steady { IfOk result (λ n.
+            (0 < n) ⊎ (length piece.now ≡ 0) → faults self.new ≡ faults self.old) }
         ensures kept { OnErr result (taken self.new ≡ taken self.old) }
         ensures rose { OnErr result (Rose (faults self.old) (faults self.new)) }
         ensures counted { faults self.old ≤ faults self.new };

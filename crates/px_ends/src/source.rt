@@ -1,5 +1,5 @@
 //! Where the bytes of a document come from.
-ghost use Rattle.std.specs.Prelude.{◌≡◌, ◌≤◌, ℕ, List, Option, length, IfOk, OnErr};
+ghost use Rattle.std.specs.Prelude.{◌≡◌, ◌≤◌, ℕ, List, Option, length, IfOk, OnOk, OnErr};
 ghost use Rattle.px_ends.specs.Ends.{Gives, Rose};
 
 /// A read failed.
@@ -16,10 +16,11 @@ pub trait Source {
 
     /// Reads some bytes into the front of the buffer and says how many; 0 is the end, where the
     /// buffer is not empty. `SourceFailed` where the read failed: it took nothing, and counts as a
-    /// fault.
+    /// fault. A read that went well counts as none.
     fn read(&mut self, buf: &mut [u8]) -> Result<usize, SourceFailed>
         ensures within { IfOk result (λ n. n ≤ length buf.new) }
         ensures gives { IfOk result (λ n. Gives n buf.new (left self.old) (left self.new)) }
+        ensures steady { OnOk result (faults self.new ≡ faults self.old) }
         ensures kept { OnErr result (left self.new ≡ left self.old) }
         ensures rose { OnErr result (Rose (faults self.old) (faults self.new)) }
         ensures counted { faults self.old ≤ faults self.new };

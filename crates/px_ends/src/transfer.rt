@@ -1,6 +1,6 @@
 //! A whole document read from a source, and a whole text written to a sink.
 ghost use Rattle.std.specs.Prelude.{◌≡◌, ◌<◌, ◌≤◌, ◌^◌, length, vec_len, IfOk, OnOk, IfErr, OnErr};
-ghost use Rattle.px_ends.specs.Ends.{IsAll, Rose, Stops, TakesAll, TakesPart};
+ghost use Rattle.px_ends.specs.Ends.{GivesFront, IsAll, Rose, Stops, TakesAll, TakesPart};
 
 use crate::sink::{Sink, SinkFailed};
 use crate::source::Source;
@@ -53,12 +53,15 @@ fn buffer(alloc: Global, len: usize) -> Result<Vec<u8>, AllocError>
 
 /// All that the source has left, of which there are fewer than `LIMIT` bytes; `TooLong` where there
 /// are more (`LIMIT` of them were read), `Failed` where a read failed, `OutOfMemory` where memory was
-/// wanting.
+/// wanting. A read that fails is the last one and gives no other answer than `Failed`, and whatever
+/// the answer, at most `LIMIT` bytes are taken.
 pub fn read_all<S: Source>(alloc: Global, source: &mut S) -> Result<Vec<u8>, ReadEnd>
     ensures short { IfOk result (λ v. length v.items < 2 ^ 26) }
     ensures whole { IfOk result (λ v. IsAll v.items (S.left source.old) (S.left source.new)) }
+    ensures steady { OnOk result (S.faults source.new ≡ S.faults source.old) }
     ensures stops { IfErr result (λ e.
         Stops e (S.left source.old) (S.left source.new) (S.faults source.old) (S.faults source.new)) }
+    ensures front { GivesFront (S.left source.old) (S.left source.new) }
     ensures counted { S.faults source.old ≤ S.faults source.new }
 {
     let mut piece = buffer(alloc, PIECE)?;
@@ -76,9 +79,10 @@ pub fn read_all<S: Source>(alloc: Global, source: &mut S) -> Result<Vec<u8>, Rea
 }
 
 /// Writes all of the text; `SinkFailed` where a write failed or took nothing, after some front of
-/// the text was taken.
+/// the text was taken. Such a write is the last one and gives no other answer.
 pub fn write_all<K: Sink>(sink: &mut K, text: &[u8]) -> Result<(), SinkFailed>
     ensures whole { OnOk result (TakesAll text.now (K.taken sink.old) (K.taken sink.new)) }
+    ensures steady { OnOk result (K.faults sink.new ≡ K.faults sink.old) }
     ensures part { OnErr result (TakesPart text.now (K.taken sink.old) (K.taken sink.new)) }
     ensures rose { OnErr result (Rose (K.faults sink.old) (K.faults sink.new)) }
     ensures counted { K.faults sink.old ≤ K.faults sink.new }

@@ -7,7 +7,7 @@ invariant-loop-bytes g l = record {
   room : vec_len l.piece ≡ 65536;
   within : vec_len l.bytes ≤ 2 ^ 26;
   reads : HasRead l.bytes.items (g.S.Source.left l.initial.source) (g.S.Source.left l.source);
-  counted : g.S.Source.faults l.initial.source ≤ g.S.Source.faults l.source;
+  steady : g.S.Source.faults l.source ≡ g.S.Source.faults l.initial.source;
 }
 
 abbrev pub decreases-loop-bytes : goal.decreases-loop-bytes
