@@ -1,13 +1,12 @@
 //! The command `run`: a document is read, its steps are run, and the reply is written.
 ghost use Rattle.std.specs.Prelude.{◌≡◌, ◌≢◌, ◌↔◌, ◌⊎◌, ◌+◌, ◌≤◌, ℕ, List, [], Some, None, IfSome, IsTrue, map, string_bytes};
 ghost use Rattle.px_document.specs.Document.{Doc};
-ghost use Rattle.px_ends.specs.Ends.{Rose, TakesAll, TakesPart};
+ghost use Rattle.px_ends.specs.Ends.{GivesFront, Rose, TakesAll, TakesPart};
 ghost use Rattle.px_document.specs.Label.{bad_document_line};
 ghost use Rattle.px_frame.specs.External.{alone};
 ghost use Rattle.px_steps.specs.Plain.{AreValid, groupings_of};
 ghost use Rattle.px_document.specs.DocumentText.{IsDocument};
 ghost use Rattle.px_steps.specs.Run.{Calm, Ends, IsCommand, Silent};
-
 
 use crate::reply::{Reply, reply_to};
 use crate::status::Status;
@@ -36,6 +35,7 @@ fn written<K: Sink>(sink: &mut K, text: &[u8], done: Status) -> Status
     ensures ends { (result ≡ done) × TakesAll text.now (K.taken sink.old) (K.taken sink.new)
         ⊎ (result ≡ Status.WriteFault) × TakesPart text.now (K.taken sink.old) (K.taken sink.new)
         × Rose (K.faults sink.old) (K.faults sink.new) }
+    ensures no_write_fault { result ≢ Status.WriteFault → K.faults sink.new ≡ K.faults sink.old }
     ensures counted { K.faults sink.old ≤ K.faults sink.new }
 {
     match write_all(sink, text) {
@@ -56,6 +56,7 @@ fn answer<K: Sink, L: Ledger, M: Ledger>(
     ensures read { (result ≢ Status.Usage) × (result ≢ Status.ReadFault) }
     ensures write_fault { result ≡ Status.WriteFault →
         Rose (K.faults sink.old) (K.faults sink.new) }
+    ensures no_write_fault { result ≢ Status.WriteFault → K.faults sink.new ≡ K.faults sink.old }
     ensures counted { K.faults sink.old ≤ K.faults sink.new }
     ensures grouped { (doc : Doc) →
         result ≡ Status.Done →
@@ -81,11 +82,16 @@ fn run_command<S: Source, K: Sink, L: Ledger, M: Ledger>(
     ensures ends { IfSome (S.left source.old) (λ b.
         Ends result b (S.left source.new) (K.taken sink.old) (K.taken sink.new)) }
     ensures silent { Silent result (K.taken sink.old) (K.taken sink.new) }
+    ensures taken { GivesFront (S.left source.old) (S.left source.new) }
     ensures command { result ≢ Status.Usage }
     ensures read_fault { result ≡ Status.ReadFault →
         Rose (S.faults source.old) (S.faults source.new) }
     ensures write_fault { result ≡ Status.WriteFault →
         Rose (K.faults sink.old) (K.faults sink.new) }
+    ensures no_read_fault { result ≢ Status.ReadFault →
+        S.faults source.new ≡ S.faults source.old }
+    ensures no_write_fault { result ≢ Status.WriteFault →
+        K.faults sink.new ≡ K.faults sink.old }
     ensures read_counted { S.faults source.old ≤ S.faults source.new }
     ensures write_counted { K.faults sink.old ≤ K.faults sink.new }
     ensures grouped { (b : List ℕ) (doc : Doc) →
@@ -107,7 +113,9 @@ fn run_command<S: Source, K: Sink, L: Ledger, M: Ledger>(
 /// (`Done`), the line of a refusal or a fault (`Refused`), or the line of a bad document
 /// (`BadDocument`), which 2^26 bytes and more are too, of which that many are read. The text is
 /// complete before the first of it is written. `ReadFault`, `WriteFault` and `OutOfMemory` tell why
-/// it stopped; it tries nothing again. With other words it touches nothing and tells `Usage`.
+/// it stopped; it tries nothing again, so a read that fails ends it with `ReadFault`, and a write
+/// that fails with `WriteFault`. However it ends, it takes at most 2^26 bytes from the source. With
+/// other words it touches nothing and tells `Usage`.
 pub fn run<S: Source, K: Sink, L: Ledger, M: Ledger>(
     alloc: Global,
     words: &[String],
@@ -126,11 +134,18 @@ pub fn run<S: Source, K: Sink, L: Ledger, M: Ledger>(
         Ends result b (S.left source.new) (K.taken sink.old) (K.taken sink.new)) }
     // What was not written, whatever the source tells.
     ensures silent { Silent result (K.taken sink.old) (K.taken sink.new) }
+    // At most 2^26 bytes are taken from the source, whatever the status.
+    ensures taken { GivesFront (S.left source.old) (S.left source.new) }
     // No fault is told that was not there.
     ensures read_fault { result ≡ Status.ReadFault →
         Rose (S.faults source.old) (S.faults source.new) }
     ensures write_fault { result ≡ Status.WriteFault →
         Rose (K.faults sink.old) (K.faults sink.new) }
+    // No fault that was there is kept back.
+    ensures no_read_fault { result ≢ Status.ReadFault →
+        S.faults source.new ≡ S.faults source.old }
+    ensures no_write_fault { result ≢ Status.WriteFault →
+        K.faults sink.new ≡ K.faults sink.old }
     ensures read_counted { S.faults source.old ≤ S.faults source.new }
     ensures write_counted { K.faults sink.old ≤ K.faults sink.new }
     // A document of valid steps is done, where no read and no write fails and memory is not wanting.
