@@ -41,8 +41,8 @@ abbrev pub GivesFront : Option (List ℕ) → Option (List ℕ) → Type 0
 GivesFront None new = new ≡ None
 GivesFront (Some b) new = (n : ℕ) × (n ≤ 2 ^ 26) × (new ≡ Some (drop n b))
 
--- what each refusal says of the bytes left before and after, and of the counts of faults: only after
--- a failed read is that not as it was
+-- what each refusal says of the bytes left before and after, and of the count of faults: a failed read
+-- raised it, and else it is as it was
 abbrev pub Stops : ReadEnd → Option (List ℕ) → Option (List ℕ) → ℕ → ℕ → Type 0
 Stops TooLong old new before now = IsTooLong old new × (now ≡ before)
 Stops Failed old new before now = Rose before now
