@@ -13,3 +13,6 @@ pub mod RowOrder
 pub mod Operating
 pub mod Keeping
 pub mod Placing
+pub mod Between
+pub mod Exploding
+pub mod Sorting

@@ -6,3 +6,8 @@ pub mod Beside
 pub mod Operated
 pub mod Rows
 pub mod Window
+pub mod Chosen
+pub mod Interval
+pub mod Exploded
+pub mod Member
+pub mod Sorted
