@@ -19,7 +19,7 @@ fn exploded_len(slot: Option<ValueRef<'_>>) -> u32
     ensures { result ≡ length (exploded_slot (slot_of_ref slot.entry)) }
 {
     match slot {
-        Some(ValueRef::List(values)) => if values.is_empty() { 1 } else { values.len() },
+        Some(ValueRef::List(values)) if !values.is_empty() => values.len(),
         _ => 1,
     }
 }
@@ -47,11 +47,7 @@ impl ColumnBuilder {
         ensures ok { OnOk result (self.new ≡ record self.old { slots = self.old.slots ++ exploded_slot (slot_of_ref slot.entry) }) }
     {
         match slot {
-            Some(ValueRef::List(values)) => if values.is_empty() {
-                self.push(None)
-            } else {
-                self.push_items(values)
-            },
+            Some(ValueRef::List(values)) if !values.is_empty() => self.push_items(values),
             _ => self.push(None),
         }
     }
