@@ -1,5 +1,5 @@
 -- Two columns side by side: their lengths and their rows.
-use Rattle.std.proofs.Common.{◌≡◌, ◌∙◌, ℕ, zero, suc, ◌<◌, ◌==◌, Bool, true, false, if◌then◌else◌, List, [], ◌∷◌, Ok, Err, length, refl, arith}
+use Rattle.std.proofs.Common.{◌≡◌, ◌∙◌, ℕ, zero, suc, ◌<◌, ◌==◌, Bool, true, false, if◌then◌else◌, List, [], ◌∷◌, Ok, Err, length, refl, subst, sym, arith}
 use Rattle.std.specs.List.{zip}
 use Rattle.std.proofs.lemmas.List.{length-map, length-replicate}
 use Rattle.std.proofs.lemmas.Slice.Zip.{length-zip}
@@ -7,7 +7,7 @@ use Rattle.std.proofs.lemmas.Bool.Decides.{nat_tests}
 use Rattle.px_value.specs.Datum.{Slot}
 use Rattle.px_value.specs.Series.{slot_at}
 use Rattle.px_value.specs.declared.error.PxError.TheVariants.{ShapeMismatch}
-use Rattle.px_column.specs.Beside.{common_length, rows_to, zipped}
+use Rattle.px_column.specs.Beside.{common_length, rows_to, zipped, zipped_three}
 
 -- the common length is the left one, unless that is 1
 left_kept : (a b c : Bool) (m n k : ℕ) → b ≡ false → (if a then Ok m else if b then Ok n else if c then Ok m else Err ShapeMismatch) ≡ Ok k → m ≡ k
@@ -51,3 +51,28 @@ slot_beside f (x ∷ xs) (y ∷ ys) (suc i) h k = slot_beside f xs ys i (omega (
 
 pub length_beside : (f : Slot → Slot → Slot) (xs ys : List Slot) (n : ℕ) → length xs ≡ n → length ys ≡ n → length (zipped f xs ys) ≡ n
 length_beside f xs ys n h k = length-map (zip xs ys) (λ p. f p.0 p.1) ∙ length-zip xs ys ∙ omega arith
+
+-- the first of three columns has their length
+pub length_first : (xs : List Slot) (b m c n : ℕ) → common_length (length xs) b ≡ Ok m → common_length m c ≡ Ok n → length (rows_to n xs) ≡ n
+length_first [] b m c n h k = length_left [] c n (subst (λ i. common_length i c ≡ Ok n) (sym (length_left [] b m h)) k)
+length_first (x ∷ []) b m c n h k = length-replicate n x
+length_first (x ∷ y ∷ xs) b m c n h k = length_left (x ∷ y ∷ xs) c n (subst (λ i. common_length i c ≡ Ok n) (sym (length_left (x ∷ y ∷ xs) b m h)) k)
+
+-- and so has the second
+pub length_second : (a : ℕ) (ys : List Slot) (m c n : ℕ) → common_length a (length ys) ≡ Ok m → common_length m c ≡ Ok n → length (rows_to n ys) ≡ n
+length_second a [] m c n h k = length_left [] c n (subst (λ i. common_length i c ≡ Ok n) (sym (length_right a [] m h)) k)
+length_second a (x ∷ []) m c n h k = length-replicate n x
+length_second a (x ∷ y ∷ xs) m c n h k = length_left (x ∷ y ∷ xs) c n (subst (λ i. common_length i c ≡ Ok n) (sym (length_right a (x ∷ y ∷ xs) m h)) k)
+
+-- a row of three lists side by side
+pub slot_beside_three : (f : Slot → Slot → Slot → Slot) (xs ys zs : List Slot) (i : ℕ) → i < length xs → i < length ys → i < length zs → slot_at (zipped_three f xs ys zs) i ≡ f (slot_at xs i) (slot_at ys i) (slot_at zs i)
+slot_beside_three f [] ys zs i h k l = absurd (omega (arith, h))
+slot_beside_three f (x ∷ xs) [] zs i h k l = absurd (omega (arith, k))
+slot_beside_three f (x ∷ xs) (y ∷ ys) [] i h k l = absurd (omega (arith, l))
+slot_beside_three f (x ∷ xs) (y ∷ ys) (z ∷ zs) zero h k l = refl
+slot_beside_three f (x ∷ xs) (y ∷ ys) (z ∷ zs) (suc i) h k l = slot_beside_three f xs ys zs i (omega (arith, h)) (omega (arith, k)) (omega (arith, l))
+
+pub length_beside_three : (f : Slot → Slot → Slot → Slot) (xs ys zs : List Slot) (n : ℕ) → length xs ≡ n → length ys ≡ n → length zs ≡ n → length (zipped_three f xs ys zs) ≡ n
+length_beside_three f xs ys zs n h k l =
+    let pairs : length (zip ys zs) ≡ n = length-zip ys zs ∙ omega arith in
+    length-map (zip xs (zip ys zs)) (λ p. f p.0 p.1.0 p.1.1) ∙ length-zip xs (zip ys zs) ∙ omega arith

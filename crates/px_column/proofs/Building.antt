@@ -1,5 +1,5 @@
 -- A builder that takes the rows of a list one by one.
-use Rattle.std.proofs.Common.{◌≡◌, ℕ, ◌+◌, ◌<◌, ◌≤◌, List, [], ◌∷◌, ◌++◌, Ok, length, take, ◌∙◌, sym, ap, subst, append-nil}
+use Rattle.std.proofs.Common.{◌≡◌, ℕ, ◌+◌, ◌<◌, ◌≤◌, List, [], ◌∷◌, ◌++◌, Ok, length, take, ◌∙◌, sym, ap, subst, append-nil, append_assoc}
 use Rattle.std.specs.Prelude.{Result}
 use Rattle.std.proofs.lemmas.List.{take_all}
 use Rattle.px_value.specs.Answer.{Answers}
@@ -37,3 +37,11 @@ built_whole name k all rest b r n h e none g =
     let whole : b.slots ≡ all = sym (append-nil b.slots) ∙ ap (λ zs. b.slots ++ zs) (sym none) ∙ e in
     let same : b ≡ record { name = name; kind = k; slots = all } = λ i. record { name = n i; kind = h i; slots = whole i } in
     subst (λ (s : Series). Answers r (Ok s)) same g
+
+-- it takes one more of a list's rows after those that it had
+pub items_more : (b s s' : Series) (xs : List Slot) (i : ℕ) (x : Slot) → i < length xs → s ≡ record { name = b.name; kind = b.kind; slots = b.slots ++ take i xs }
+    → s' ≡ record { name = s.name; kind = s.kind; slots = s.slots ++ x ∷ [] } → x ≡ slot_at xs i → s' ≡ record { name = b.name; kind = b.kind; slots = b.slots ++ take (i + 1) xs }
+items_more b s s' xs i x h e g v =
+    let more : take (i + 1) xs ≡ take i xs ++ x ∷ [] = rw v (take_row xs i h) in
+    let all : b.slots ++ take (i + 1) xs ≡ (b.slots ++ take i xs) ++ x ∷ [] = ap (λ ys. b.slots ++ ys) more ∙ sym (append_assoc b.slots (take i xs) (x ∷ [])) in
+    cc

@@ -14,3 +14,6 @@ pub mod Operating
 pub mod KeyLaws
 pub mod Keeping
 pub mod Placing
+pub mod Between
+pub mod Exploding
+pub mod Sorting

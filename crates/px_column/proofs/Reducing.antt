@@ -40,7 +40,7 @@ fits_best k f h [] q = refl
 fits_best k f h (None ∷ xs) q = fits_best k f h xs q
 fits_best k f h (Some a ∷ xs) q = let r = both (fits k a) (slots_fit k xs) q in fits_fold k f h a xs r.0 r.1
 
-fits_slots : (k : Kind) (xs : List Slot) → all_fit k (slots xs) ≡ slots_fit k xs
+pub fits_slots : (k : Kind) (xs : List Slot) → all_fit k (slots xs) ≡ slots_fit k xs
 fits_slots k [] = refl
 fits_slots k (None ∷ xs) = fits_slots k xs
 fits_slots k (Some d ∷ xs) = ap (λ b. fits k d && b) (fits_slots k xs)

@@ -1,5 +1,5 @@
 -- One more row of a list.
-use Rattle.std.proofs.Common.{◌≡◌, ℕ, zero, suc, ◌+◌, ◌<◌, ◌≤◌, List, [], ◌∷◌, ◌++◌, None, length, take, fold, refl, ◌∙◌, ap, arith, add-one}
+use Rattle.std.proofs.Common.{◌≡◌, ℕ, zero, suc, ◌+◌, ◌<◌, ◌≤◌, List, [], ◌∷◌, ◌++◌, None, length, map, take, fold, refl, ◌∙◌, ap, arith, add-one}
 use Rattle.std.proofs.lemmas.Grind.{fold-append}
 use Rattle.px_value.specs.Datum.{Slot}
 use Rattle.px_value.specs.Series.{slot_at}
@@ -21,3 +21,9 @@ pub nothing_past : (xs : List Slot) (i : ℕ) → length xs ≤ i → slot_at xs
 nothing_past [] i h = refl
 nothing_past (x ∷ xs) zero h = absurd (omega (arith, h))
 nothing_past (x ∷ xs) (suc i) h = nothing_past xs i (omega (arith, h))
+
+-- a row of what a function makes of each
+pub slot_map : (f : Slot → Slot) (xs : List Slot) (i : ℕ) → i < length xs → slot_at (map f xs) i ≡ f (slot_at xs i)
+slot_map f [] i h = absurd (omega (arith, h))
+slot_map f (x ∷ xs) zero h = refl
+slot_map f (x ∷ xs) (suc i) h = slot_map f xs i (omega (arith, h))

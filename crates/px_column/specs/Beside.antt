@@ -2,6 +2,7 @@
 use Rattle.std.specs.Prelude.{ℕ, ◌==◌, List, [], ◌∷◌, Result, Ok, Err, map, replicate, if◌then◌else◌}
 use Rattle.std.specs.List.{zip}
 use Rattle.px_value.specs.Datum.{Slot}
+use Rattle.px_value.specs.Result.{◌>>=◌}
 use Rattle.px_value.specs.declared.error.PxError.{PxError}
 use Rattle.px_value.specs.declared.error.PxError.TheVariants.{ShapeMismatch}
 
@@ -14,6 +15,16 @@ abbrev pub rows_to : ℕ → List Slot → List Slot
 rows_to n (s ∷ []) = replicate n s
 rows_to n xs = xs
 
+-- the length of three columns side by side
+abbrev pub length_of_three : ℕ → ℕ → ℕ → Result ℕ PxError
+length_of_three l m n = do
+  k ← common_length l m
+  common_length k n
+
 -- what a function makes of the rows of two lists side by side
 abbrev pub zipped : (Slot → Slot → Slot) → List Slot → List Slot → List Slot
 zipped f xs ys = map (λ p. f p.0 p.1) (zip xs ys)
+
+-- what a function makes of the rows of three lists side by side
+abbrev pub zipped_three : (Slot → Slot → Slot → Slot) → List Slot → List Slot → List Slot → List Slot
+zipped_three f xs ys zs = map (λ p. f p.0 p.1.0 p.1.1) (zip xs (zip ys zs))

@@ -5,6 +5,11 @@ pub mod Beside
 pub mod Operated
 pub mod Rows
 pub mod Window
+pub mod Chosen
+pub mod Interval
+pub mod Exploded
+pub mod Member
+pub mod Sorted
 pub use Rattle.px_value.specs.Option
 pub use Rattle.px_value.specs.Result
 pub use Rattle.px_value.specs.Datum

@@ -49,13 +49,6 @@ impl ColumnBuilder {
         })
     }
 
-    /// The type of the values.
-    pub fn dtype(&self) -> &DataType
-        ensures { kind_of result.now ≡ self.now.kind }
-    {
-        &self.dtype
-    }
-
     /// One row more, which fits the type; there is room for it below 2^32. Where memory is wanting
     /// the rows stay as they are.
     pub fn push(&mut self, slot: Option<Value>) -> Px<()>

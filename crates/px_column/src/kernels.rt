@@ -1,13 +1,20 @@
 //! The kernels: what is computed from whole columns.
 
 mod arrange;
+mod choose;
 mod distinct;
+mod explode;
 mod extremes;
+mod interval;
 mod keep;
+mod membership;
 mod operate;
 mod reduce;
 mod sort;
+mod sort_key;
+mod sort_multiple;
 mod sum;
 mod truths;
 
 pub use arrange::slice_window;
+pub use sort_multiple::prepare_bool_vec;

@@ -13,7 +13,7 @@ mod take;
 
 pub use builder::ColumnBuilder;
 pub use column::Column;
-pub use kernels::slice_window;
+pub use kernels::{prepare_bool_vec, slice_window};
 pub use px_operation::{
     cast_type, is_boolean, is_cast, is_integer, operator_type, reduced_type, same_type, sum_type,
     type_where, wrapped_sum,

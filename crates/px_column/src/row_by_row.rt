@@ -6,7 +6,7 @@ ghost use Rattle.px_value.specs.Kind.{slot_fits};
 ghost use Rattle.px_value.specs.KindView.{kind_of};
 ghost use Rattle.px_value.specs.LentView.{slot_of_ref};
 ghost use Rattle.px_value.specs.View.{slot_of};
-ghost use Rattle.px_column.specs.Beside.{common_length, rows_to};
+ghost use Rattle.px_column.specs.Beside.{common_length, length_of_three, rows_to};
 
 use crate::builder::ColumnBuilder;
 use crate::column::Column;
@@ -35,6 +35,18 @@ pub(crate) fn len_beside(left: &Column, right: &Column) -> Px<u32>
     ensures right { IfOk result (λ n. length (rows_to n right.now.slots) ≡ n) }
 {
     common_len(left.len(), right.len())
+}
+
+/// The length of three columns side by side: a single row is repeated. `ShapeMismatch` where the
+/// lengths differ and are not 1.
+pub(crate) fn len_of_three(first: &Column, second: &Column, third: &Column) -> Px<u32>
+    ensures answer { Answers result (length_of_three (length first.now.slots) (length second.now.slots) (length third.now.slots)) }
+    ensures first { IfOk result (λ n. length (rows_to n first.now.slots) ≡ n) }
+    ensures second { IfOk result (λ n. length (rows_to n second.now.slots) ≡ n) }
+    ensures third { IfOk result (λ n. length (rows_to n third.now.slots) ≡ n) }
+{
+    let pair = common_len(first.len(), second.len())?;
+    common_len(pair, third.len())
 }
 
 /// What a function makes of each row of a column.

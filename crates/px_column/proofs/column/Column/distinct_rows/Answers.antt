@@ -1,8 +1,8 @@
 use Rattle.std.proofs.Common.{◌≡◌, ◌∙◌, ◌<◌, ◌≤◌, Bool, true, false, cond, length, ap, arith}
-use Rattle.px_column.specs.Key.{key_at}
+use Rattle.px_column.specs.Key.{key_at, row_of}
 use Rattle.px_value.specs.Series.{slot_at}
-use Rattle.px_column.proofs.Distinct.{row_of, distinct_row}
-use Rattle.px_column.proofs.column.Column.distinct_count.Goals as goal
+use Rattle.px_column.proofs.Distinct.{distinct_row}
+use Rattle.px_column.proofs.column.Column.distinct_rows.Goals as goal
 
 at_most_one : (b : Bool) → cond b 1 0 ≤ 1
 at_most_one true = omega arith

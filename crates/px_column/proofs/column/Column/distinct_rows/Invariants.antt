@@ -1,7 +1,7 @@
 use Rattle.std.proofs.Common.{◌≡◌, ◌≤◌, length, map, take}
 use Rattle.px_operation.specs.Reduction.{distinct_slots}
-use Rattle.px_column.proofs.Distinct.{row_of}
-use Rattle.px_column.proofs.column.Column.distinct_count.Given as goal
+use Rattle.px_column.specs.Key.{row_of}
+use Rattle.px_column.proofs.column.Column.distinct_rows.Given as goal
 
 abbrev pub invariant-loop-row : goal.invariant-loop-row
 invariant-loop-row l = record {
