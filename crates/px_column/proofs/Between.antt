@@ -7,7 +7,7 @@ use Rattle.px_value.specs.declared.closed_interval.ClosedInterval.{ClosedInterva
 use Rattle.px_value.specs.declared.closed_interval.ClosedInterval.TheVariants as ends
 use Rattle.px_operation.specs.Function.{above, below, between_slot}
 use Rattle.px_operation.specs.Operator.{compared, kind_where, operated}
-use Rattle.px_operation.specs.OperatorLaws.{fits_operated}
+use Rattle.px_operation.proofs.OperatorLaws.{fits_operated}
 use Rattle.px_value.specs.declared.error.InvalidWhy.TheVariants.{ListKey}
 use Rattle.px_value.specs.declared.error.PxError.TheVariants.{InvalidOperation}
 use Rattle.px_column.specs.Interval.{compared_kind}

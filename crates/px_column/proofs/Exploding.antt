@@ -2,7 +2,7 @@
 use Rattle.std.proofs.Common.{◌≡◌, ◌∙◌, ℕ, ◌==◌, true, false, List, [], ◌∷◌, Some, None, length, refl, sym, arith}
 use Rattle.std.proofs.lemmas.Bool.Decides.{nat_tests}
 use Rattle.px_value.specs.Datum.{list, Slot, slots, items-slots}
-use Rattle.px_value.specs.FitLaws.{fits_at}
+use Rattle.px_value.proofs.FitLaws.{fits_at}
 use Rattle.px_value.specs.Kind.{Kind, all_fit, slot_fits}
 use Rattle.px_value.specs.Series.{slot_at}
 use Rattle.px_operation.specs.Function.{exploded_slot}
