@@ -1,5 +1,7 @@
 pub mod Fitting
 pub mod Taking
+pub mod Building
+pub mod Beside
 pub mod Summing
 pub mod Extremes
 pub mod Distinct
@@ -9,3 +11,5 @@ pub mod Rising
 pub mod Inserting
 pub mod RowOrder
 pub mod Operating
+pub mod Keeping
+pub mod Placing

@@ -8,7 +8,6 @@ use Rattle.px_value.specs.Kind.{Kind, booleans, int8s, int16s, int32s, int64s, u
 use Rattle.px_operation.specs.Operator.{is_integer_kind}
 use Rattle.px_value.specs.Order.{datum_cmp}
 use Rattle.px_operation.specs.Reduction.{values_of, kind_there, reduced_kind, reduced_slot, sum_slot, count_slot}
-use Rattle.px_value.specs.Series.{IsColumn}
 use Rattle.px_operation.specs.Sum.{sum_kind, total}
 use Rattle.px_value.specs.declared.error.PxError.{PxError}
 use Rattle.px_value.specs.declared.method.GroupByMethod.{GroupByMethod}
@@ -85,9 +84,3 @@ fits_reduced NUnique k r xs f n e = subst (λ q. slot_fits q (reduced_slot NUniq
 fits_reduced (Count true) k r xs f n e = let s : uint32s ≡ r = cc in subst (λ q. slot_fits q (reduced_slot (Count true) k xs) ≡ true) s (fits_count (length xs) n)
 fits_reduced (Count false) k r xs f n e = let s : uint32s ≡ r = cc in subst (λ q. slot_fits q (reduced_slot (Count false) k xs) ≡ true) s (fits_count _ (omega (arith, counted xs)))
 fits_reduced Implode k r xs f n e = let s : lists k ≡ r = cc in subst (λ q. slot_fits q (reduced_slot Implode k xs) ≡ true) s (let g : all_fit k (slots xs) ≡ true = rw (fits_slots k xs) f in g)
-
--- the one row of a reduction
-pub one_row : (m : GroupByMethod) (k r : Kind) (xs ys : List Slot) → IsColumn k xs → reduced_kind m k ≡ Ok r → ys ≡ reduced_slot m k xs ∷ [] → IsColumn r ys
-one_row m k r xs ys c e h =
-    let fit : slots_fit r (reduced_slot m k xs ∷ []) ≡ true = ap (λ b. b && true) (fits_reduced m k r xs c.fit c.short e) in
-    subst (IsColumn r) (sym h) (record { fit = fit; short = omega arith })

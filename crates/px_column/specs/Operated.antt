@@ -1,28 +1,19 @@
 -- What an operator makes of two columns side by side.
-use Rattle.std.specs.Prelude.{ℕ, ◌==◌, List, [], ◌∷◌, Result, Ok, Err, length, map, replicate, if◌then◌else◌}
-use Rattle.std.specs.List.{zip}
+use Rattle.std.specs.Prelude.{ℕ, List, Result, Ok, Err, length, if◌then◌else◌}
 use Rattle.px_value.specs.Datum.{Slot}
 use Rattle.px_value.specs.Result.{◌>>=◌}
 use Rattle.px_value.specs.Series.{Series}
 use Rattle.px_value.specs.declared.error.PxError.{PxError}
-use Rattle.px_value.specs.declared.error.PxError.TheVariants.{InvalidOperation, ShapeMismatch}
+use Rattle.px_value.specs.declared.error.PxError.TheVariants.{InvalidOperation}
 use Rattle.px_value.specs.declared.error.InvalidWhy.TheVariants.{Types}
 use Rattle.px_value.specs.declared.operator.Operator.{Operator}
 use Rattle.px_value.specs.declared.operator.Operator.TheVariants.{Plus}
 use Rattle.px_operation.specs.Operator.{is_integer_kind, is_string_kind, operator_kind, operated}
-
--- the length of two columns side by side: the same for both, or the other's where one has a single row
-abbrev pub common_length : ℕ → ℕ → Result ℕ PxError
-common_length m n = if m == n then Ok m else if m == 1 then Ok n else if n == 1 then Ok m else Err ShapeMismatch
-
--- the rows of a column beside others of length n: a single row stands for each of the n
-abbrev pub rows_to : ℕ → List Slot → List Slot
-rows_to n (s ∷ []) = replicate n s
-rows_to n xs = xs
+use Rattle.px_column.specs.Beside.{common_length, rows_to, zipped}
 
 -- row by row what an operator makes of two columns, of which each has n rows or a single one
 abbrev pub operated_rows : Operator → Series → Series → ℕ → List Slot
-operated_rows op a b n = map (λ p. operated a.kind op p.0 p.1) (zip (rows_to n a.slots) (rows_to n b.slots))
+operated_rows op a b n = zipped (operated a.kind op) (rows_to n a.slots) (rows_to n b.slots)
 
 -- the column of an operator on two columns: its type or why there is none, then its length, and the left one's name
 abbrev pub operated_column : Operator → Series → Series → Result Series PxError

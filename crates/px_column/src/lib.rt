@@ -1,12 +1,19 @@
 //! Columns of typed, nullable values, and the kernels over them.
 #![tactic(auto)]
 
+mod builder;
 mod column;
 mod kernels;
+mod reading;
 mod repeat;
+mod row_by_row;
 mod row_key;
+mod rows;
+mod take;
 
+pub use builder::ColumnBuilder;
 pub use column::Column;
+pub use kernels::slice_window;
 pub use px_operation::{
     cast_type, is_boolean, is_cast, is_integer, operator_type, reduced_type, same_type, sum_type,
     type_where, wrapped_sum,
@@ -17,3 +24,4 @@ pub use px_value::{
     ValueRef, Values,
 };
 pub use row_key::RowKey;
+pub use rows::Rows;

@@ -1,26 +1,17 @@
 //! Columns that hold the same at each row.
-ghost use Rattle.std.specs.Prelude.{◌≡◌, ◌<◌, Ok, Some, None, length, replicate, true};
-ghost use Rattle.px_value.specs.Answer.{Answers, AnswersBy};
+ghost use Rattle.std.specs.Prelude.{◌≡◌, ◌<◌, Ok, Some, None, length, true};
+ghost use Rattle.px_value.specs.Answer.{Answers};
 ghost use Rattle.px_value.specs.Kind.{fits, slot_fits};
 ghost use Rattle.px_value.specs.KindView.{kind_of};
 ghost use Rattle.px_value.specs.LentView.{slot_of_ref};
 ghost use Rattle.px_column.specs.Repeat.{repeated};
 ghost use Rattle.px_value.specs.Series.{slot_at};
-ghost use Rattle.px_value.specs.View.{datum_of, slots_of};
+ghost use Rattle.px_value.specs.View.{datum_of};
 
+use crate::builder::ColumnBuilder;
 use crate::column::Column;
-use px_value::{DataType, Name, Px, Value, ValueRef, copy_slot};
+use px_value::{DataType, Name, Px, Value, ValueRef};
 use std::alloc::Global;
-
-fn copies(alloc: Global, slot: Option<ValueRef<'_>>, len: u32) -> Px<Vec<Option<Value>>>
-    ensures { AnswersBy (λ v. slots_of v.items) result (Ok (replicate len (slot_of_ref slot.entry))) }
-{
-    let mut copies = Vec::with_capacity(alloc, len as usize)?;
-    for _ in 0..len {
-        copies.push(copy_slot(alloc, slot)?)?;
-    }
-    Ok(copies)
-}
 
 fn repeated(
     alloc: Global,
@@ -32,8 +23,11 @@ fn repeated(
     requires { slot_fits (kind_of dtype) (slot_of_ref slot) ≡ true }
     ensures { Answers result (Ok (repeated name (kind_of dtype) (slot_of_ref slot.entry) len)) }
 {
-    let rows = copies(alloc, slot, len)?;
-    Column::of_fitting(alloc, name, dtype, rows)
+    let mut rows = ColumnBuilder::new(alloc, name, dtype, len)?;
+    for _ in 0..len {
+        rows.push_ref(slot)?;
+    }
+    rows.finish()
 }
 
 impl Column {
@@ -61,6 +55,6 @@ impl Column {
     {
         let name = self.name().try_clone(alloc)?;
         let dtype = self.dtype().try_clone(alloc)?;
-        repeated(alloc, name, dtype, self.slot(index), len)
+        repeated(alloc, name, dtype, self.get(index), len)
     }
 }

@@ -47,7 +47,7 @@ fn same_rows(a: &[Column], a_row: u32, b: &[Column], b_row: u32) -> bool
     }
     let mut i = 0;
     while i < a.len() {
-        if !same_slot(a[i].slot(a_row), b[i].slot(b_row)) {
+        if !same_slot(a[i].get_or_null(a_row), b[i].get_or_null(b_row)) {
             return false;
         }
         i += 1;
@@ -60,7 +60,7 @@ fn hash_row<H: Hasher>(by: &[Column], row: u32, state: &mut H)
 {
     let mut i = 0;
     while i < by.len() {
-        hash_slot(by[i].slot(row), state);
+        hash_slot(by[i].get_or_null(row), state);
         i += 1;
     }
     state.write_u8(0);

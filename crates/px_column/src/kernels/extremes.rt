@@ -37,8 +37,8 @@ impl Column {
         ensures { slot_of_ref result ≡ reduce (ord_min datum_cmp) (values_of self.now.slots) }
     {
         let mut best = None;
-        for row in 0..self.len() {
-            best = lesser(best, self.slot(row));
+        for row in self.rows() {
+            best = lesser(best, row);
         }
         best
     }
@@ -48,8 +48,8 @@ impl Column {
         ensures { slot_of_ref result ≡ reduce (ord_max datum_cmp) (values_of self.now.slots) }
     {
         let mut best = None;
-        for row in 0..self.len() {
-            best = greater(best, self.slot(row));
+        for row in self.rows() {
+            best = greater(best, row);
         }
         best
     }

@@ -1,56 +1,40 @@
 //! Operators on two columns side by side, row by row (polars-expr `apply_operator`).
-ghost use Rattle.std.specs.Prelude.{◌≡◌, ◌+◌, ◌<◌, ℕ, Ok, length, true};
-ghost use Rattle.px_value.specs.Answer.{Answers, AnswersBy};
-ghost use Rattle.px_value.specs.Kind.{slot_fits};
-ghost use Rattle.px_value.specs.LentView.{slot_of_ref};
-ghost use Rattle.px_value.specs.Series.{slot_at};
-ghost use Rattle.px_value.specs.View.{slots_of};
+ghost use Rattle.std.specs.Prelude.{◌≡◌, ◌+◌, [], Ok, length, true};
+ghost use Rattle.px_value.specs.Answer.{Answers};
 ghost use Rattle.px_value.specs.declared.operator.Operator.TheVariants.{And, Or, Xor};
 ghost use Rattle.px_operation.specs.Operate.{is_arithmetic};
-ghost use Rattle.px_operation.specs.Operator.{is_comparison};
-ghost use Rattle.px_column.specs.Operated.{appended_column, arithmetic_column, common_length, operated_column, operated_rows, rows_to};
+ghost use Rattle.px_operation.specs.Operator.{is_comparison, operator_kind};
+ghost use Rattle.px_column.specs.Beside.{rows_to};
+ghost use Rattle.px_column.specs.Operated.{appended_column, arithmetic_column, operated_column, operated_rows};
 
-
+use crate::builder::ColumnBuilder;
 use crate::column::Column;
+use crate::row_by_row::len_beside;
 use px_operation::{is_integer, operate, operator_type};
-use px_value::{DataType, InvalidWhy, Operator, Px, PxError, Steps, Value, ValueRef};
+use px_value::{DataType, InvalidWhy, Operator, Px, PxError, Steps};
 use std::alloc::Global;
 use std::sync::ledger::Ledger;
 
-/// The length of two columns side by side: a single row is repeated. `ShapeMismatch` where the lengths
-/// differ and neither is 1.
-fn common_len(left: u32, right: u32) -> Px<u32>
-    ensures { Answers result (common_length left right) }
-{
-    if left == right {
-        Ok(left)
-    } else if left == 1 {
-        Ok(right)
-    } else if right == 1 {
-        Ok(left)
-    } else {
-        Err(PxError::ShapeMismatch)
-    }
-}
-
-/// What an operator makes of the rows of two columns of one type, side by side.
+/// What an operator makes of the rows of two columns side by side.
 fn operated_rows(
     alloc: Global,
+    mut rows: ColumnBuilder,
     left: &Column,
     right: &Column,
     op: Operator,
     len: u32,
-) -> Px<Vec<Option<Value>>>
-    requires kind { left.now.kind ≡ right.now.kind }
-    requires len { common_length (length left.now.slots) (length right.now.slots) ≡ Ok len }
-    ensures { AnswersBy (λ v. slots_of v.items) result (Ok (operated_rows op left.now right.now len)) }
+) -> Px<Column>
+    requires kind { operator_kind op left.now.kind right.now.kind ≡ Ok rows.kind }
+    requires empty { rows.slots ≡ [] }
+    requires left_len { length (rows_to len left.now.slots) ≡ len }
+    requires right_len { length (rows_to len right.now.slots) ≡ len }
+    ensures { Answers result (Ok (record rows { slots = operated_rows op left.now right.now len })) }
 {
-    let mut rows = Vec::with_capacity(alloc, len as usize)?;
     for row in 0..len {
         let (x, y) = (left.row_beside(row), right.row_beside(row));
         rows.push(operate(alloc, left.dtype(), op, x, y)?)?;
     }
-    Ok(rows)
+    rows.finish()
 }
 
 /// What an operator makes of two columns.
@@ -58,21 +42,13 @@ fn operated(alloc: Global, left: &Column, right: &Column, op: Operator) -> Px<Co
     ensures { Answers result (operated_column op left.now right.now) }
 {
     let dtype = operator_type(op, left.dtype().try_clone(alloc)?, right.dtype())?;
-    let (xs, ys) = (left.rows(), right.rows());
-    let len = common_len(xs.len() as u32, ys.len() as u32)?;
-    let rows = operated_rows(alloc, left, right, op, len)?;
-    left.with_rows(alloc, dtype, rows)
+    let len = len_beside(left, right)?;
+    let name = left.name().try_clone(alloc)?;
+    let rows = ColumnBuilder::new(alloc, name, dtype, len)?;
+    operated_rows(alloc, rows, left, right, op, len)
 }
 
 impl Column {
-    /// The value at a row beside a longer column: a single row stands for each.
-    fn row_beside(&self, row: u32) -> Option<ValueRef<'_>>
-        ensures value { (n : ℕ) → row < n → slot_of_ref result ≡ slot_at (rows_to n self.now.slots) row }
-        ensures fits { slot_fits self.now.kind (slot_of_ref result) ≡ true }
-    {
-        self.slot(if self.len() == 1 { 0 } else { row })
-    }
-
     /// What an operator makes of two columns row by row (polars-expr `apply_operator`), under the left
     /// one's name; a column of a single row is repeated to the other's length. One step of the
     /// counter, whatever is answered. `ListKey` where a comparison has a list, `Types` where the

@@ -6,9 +6,10 @@ ghost use Rattle.px_value.specs.KindView.{kind_of};
 ghost use Rattle.px_operation.specs.Reduction.{count_slot, reduced, reduced_kind, reduced_slot, row_count};
 ghost use Rattle.px_value.specs.View.{slot_of};
 
+use crate::builder::ColumnBuilder;
 use crate::column::Column;
 use px_operation::reduced_type;
-use px_value::{DataType, GroupByMethod, Px, Steps, Value, Values, copy_slot, copy_slots};
+use px_value::{DataType, GroupByMethod, Px, Steps, Value, Values, copy_slot};
 use std::alloc::Global;
 use std::sync::ledger::Ledger;
 
@@ -43,7 +44,10 @@ impl Column {
     fn imploded(&self, alloc: Global) -> Px<Option<Value>>
         ensures { AnswersBy slot_of result (Ok (Some (list (slots self.now.slots)))) }
     {
-        let items = copy_slots(alloc, self.rows())?;
+        let mut items = Vec::with_capacity(alloc, self.len() as usize)?;
+        for row in self.rows() {
+            items.push(copy_slot(alloc, row)?)?;
+        }
         Ok(Some(Value::List(Values::from_vec(items))))
     }
 
@@ -56,12 +60,26 @@ impl Column {
             GroupByMethod::Min => copy_slot(alloc, self.least()),
             GroupByMethod::Max => copy_slot(alloc, self.greatest()),
             GroupByMethod::Sum => Ok(Some(self.sum(dtype))),
-            GroupByMethod::First => copy_slot(alloc, self.slot(0)),
-            GroupByMethod::Last => copy_slot(alloc, self.slot(self.len().saturating_sub(1))),
+            GroupByMethod::First => copy_slot(alloc, self.get_or_null(0)),
+            GroupByMethod::Last => copy_slot(alloc, self.get_or_null(self.len().saturating_sub(1))),
             GroupByMethod::NUnique => Ok(count(self.distinct_count(alloc)?)),
             GroupByMethod::Count { include_nulls } => Ok(count(self.row_count(include_nulls))),
             GroupByMethod::Implode => self.imploded(alloc),
         }
+    }
+
+    /// The column of what all rows become, where that is of the type `dtype`.
+    fn reduced_column(&self, alloc: Global, method: GroupByMethod, dtype: DataType) -> Px<Column>
+        requires { reduced_kind method self.now.kind ≡ Ok (kind_of dtype) }
+        ensures { Answers result (reduced method self.now) }
+    {
+        // Each row fits the type, and so does what they become.
+        let _ = self.rows();
+        let slot = self.reduced(alloc, method, &dtype)?;
+        let name = self.name().try_clone(alloc)?;
+        let mut rows = ColumnBuilder::new(alloc, name, dtype, 1)?;
+        rows.push(slot)?;
+        rows.finish()
     }
 
     /// One row: the reduction of all rows. `ListKey` where lists would be compared, `Types` where the
@@ -77,8 +95,6 @@ impl Column {
     {
         kernels.tick();
         let dtype = self.reduced_type(alloc, method)?;
-        let mut rows = Vec::with_capacity(alloc, 1)?;
-        rows.push(self.reduced(alloc, method, &dtype)?)?;
-        self.with_rows(alloc, dtype, rows)
+        self.reduced_column(alloc, method, dtype)
     }
 }

@@ -18,7 +18,7 @@ impl Column {
         ensures sum { result ≡ sum +ℤ number_of (slot_at self.now.slots row) }
         ensures within { IsWithin (count + 1) result }
     {
-        sum + number(self.slot(row))
+        sum + number(self.get_or_null(row))
     }
 
     /// The sum of the present values at these rows, of which there are fewer than 2^32, whole; a row

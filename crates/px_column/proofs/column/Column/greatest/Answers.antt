@@ -1,19 +1,12 @@
-use Rattle.std.proofs.Common.{◌≡◌, ◌∙◌, ◌<◌, None, length, fold, take, ap, arith}
-use Rattle.std.proofs.lemmas.List.{take_all}
+use Rattle.std.proofs.Common.{◌∙◌, fold, sym, ap}
 use Rattle.std.specs.Ordering.{ord_max}
+use Rattle.px_value.specs.LentView.{slot_of_ref}
 use Rattle.px_value.specs.Order.{datum_cmp}
 use Rattle.px_operation.specs.Reduction.{better}
 use Rattle.px_column.proofs.Extremes.{best_is}
-use Rattle.px_column.proofs.Taking.{fold_row}
 use Rattle.px_column.proofs.column.Column.greatest.Goals as goal
-
-pub loop-row-preserved : goal.loop-row-preserved
-loop-row-preserved c =
-    let there : c.loop-row.row < length c.args.self.now.slots = omega arith in
-    let more = fold_row (better (ord_max datum_cmp)) None c.args.self.now.slots c.loop-row.row there in
-    cc
 
 pub returns : goal.returns
 returns c =
-    let all : take c.loop-row.row c.args.self.now.slots ≡ c.args.self.now.slots = take_all c.loop-row.row c.args.self.now.slots (omega arith) in
-    c.loop-row.invariant ∙ ap (fold (better (ord_max datum_cmp)) None) all ∙ best_is (ord_max datum_cmp) c.args.self.now.slots
+    let none = ap (fold (better (ord_max datum_cmp)) (slot_of_ref c.loop-row.best)) c.in-None.ensures.steps.0 in
+    sym none ∙ c.loop-row.invariant.best ∙ best_is (ord_max datum_cmp) c.args.self.now.slots

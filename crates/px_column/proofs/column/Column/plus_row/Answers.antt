@@ -7,5 +7,5 @@ use Rattle.px_column.proofs.column.Column.plus_row.Goals as goal
 
 pub returns-clause-within : goal.returns-clause-within
 returns-clause-within c =
-    let one : IsWithin 1 (number_of (slot_of_ref c.slot.result)) = number_within c.args.self.now.kind _ c.slot.ensures.fits in
+    let one : IsWithin 1 (number_of (slot_of_ref c.get_or_null.result)) = number_within c.args.self.now.kind _ c.get_or_null.ensures.fits in
     record { low = omega (arith, ints, c.number.ensures); high = omega (arith, ints, c.number.ensures) }

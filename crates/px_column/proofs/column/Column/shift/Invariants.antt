@@ -1,0 +1,10 @@
+use Rattle.std.proofs.Common.{◌≡◌, take}
+use Rattle.px_operation.specs.Function.{shifted}
+use Rattle.px_column.proofs.column.Column.shift.Given as goal
+
+abbrev pub invariant-loop-row : goal.invariant-loop-row
+invariant-loop-row l = record {
+  name : l.rows.name ≡ l.self.name;
+  kind : l.rows.kind ≡ l.self.kind;
+  built : l.rows.slots ≡ take l.row (shifted l.periods l.self.slots);
+}

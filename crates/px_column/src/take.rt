@@ -1,0 +1,50 @@
+//! Rows of a column by their numbers.
+ghost use Rattle.std.specs.Prelude.{◌≡◌, ◌<◌, ◌^◌, length, true};
+ghost use Rattle.px_value.specs.Answer.{Answers};
+ghost use Rattle.px_value.specs.Kind.{slot_fits};
+ghost use Rattle.px_value.specs.LentView.{slot_of_ref};
+ghost use Rattle.px_column.specs.Column.{taken, taken_at, all_within};
+
+use crate::builder::ColumnBuilder;
+use crate::column::Column;
+use px_value::{Px, PxError, ValueRef};
+use std::alloc::Global;
+
+fn are_within(len: u32, indices: &[Option<u32>]) -> bool
+    ensures { result ≡ all_within len indices.now }
+{
+    for index in indices {
+        if let Some(index) = index {
+            if *index >= len {
+                return false;
+            }
+        }
+    }
+    true
+}
+
+impl Column {
+    /// The value at an asked row, nothing where none is asked for.
+    fn get_asked(&self, index: Option<u32>) -> Option<ValueRef<'_>>
+        ensures value { slot_of_ref result ≡ taken_at self.now.slots index }
+        ensures fits { slot_fits self.now.kind (slot_of_ref result) ≡ true }
+    {
+        self.get_or_null(index?)
+    }
+
+    /// These rows in this order, of which there are fewer than 2^32, with a null for each `None`;
+    /// `OutOfBounds` where an index is not below the length (polars `take`).
+    pub fn take(&self, alloc: Global, indices: &[Option<u32>]) -> Px<Column>
+        requires { length indices.now < 2 ^ 32 }
+        ensures { Answers result (taken self.now indices.now) }
+    {
+        if !are_within(self.len(), indices) {
+            return Err(PxError::OutOfBounds);
+        }
+        let mut rows = self.like(alloc, indices.len() as u32)?;
+        for index in indices {
+            rows.push_ref(self.get_asked(*index))?;
+        }
+        rows.finish()
+    }
+}
