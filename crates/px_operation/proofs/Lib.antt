@@ -4,3 +4,10 @@ pub mod CastRows
 pub mod FunctionRows
 pub mod ReductionRows
 pub mod Numbers
+pub mod Written
+pub mod WrittenCasts
+pub mod ListCasts
+pub mod Extremes
+pub mod Sums
+pub mod LastRow
+pub mod RowByRow

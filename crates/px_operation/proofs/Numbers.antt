@@ -16,7 +16,7 @@ rest_back (pos (suc a)) n = omega (arith, ints)
 rest_back (negsuc a) n = omega (arith, ints)
 
 -- the low bits of a number with more of its bits
-low_of_low : (z : ℤ) (d c m : ℕ) → 0 < d → 0 < m → c * d ≡ m → unsigned_abs (int_rem_euclid z (pos m)) % d ≡ unsigned_abs (int_rem_euclid z (pos d))
+pub low_of_low : (z : ℤ) (d c m : ℕ) → 0 < d → 0 < m → c * d ≡ m → unsigned_abs (int_rem_euclid z (pos m)) % d ≡ unsigned_abs (int_rem_euclid z (pos d))
 low_of_low (pos a) d c m h k e =
     let times : d * (c * (a / m)) ≡ m * (a / m) = sym (mul_assoc d c (a / m)) ∙ ap (λ n. n * (a / m)) (mul_comm d c ∙ e) in
     let whole : d * (c * (a / m)) + a % m ≡ a = omega (arith, times) in

@@ -1,8 +1,10 @@
 pub mod Wrap
 pub mod Sum
+pub mod Reduce
 pub mod Reduction
 pub mod Operator
 pub mod Cast
+pub mod Written
 pub mod Function
 pub mod WrapRows
 pub mod OperatorRows
@@ -12,3 +14,5 @@ pub mod ReductionRows
 pub mod WrapLaws
 pub mod Operate
 pub mod OperatorLaws
+pub mod SumLaws
+pub mod DatumOrder

@@ -16,11 +16,13 @@ mod truth;
 
 use crate::types::is_boolean;
 use bits::bit_by_bit;
-use comparison::compared;
+pub(crate) use comparison::compared;
 use number::arithmetic;
+pub(crate) use number::number_in;
 use px_value::{DataType, Name, Operator, Px, Value, ValueRef};
 use std::alloc::Global;
-use truth::{both, either, exactly_one, truth_of};
+pub(crate) use truth::{both, truth, truth_of};
+use truth::{either, exactly_one};
 
 /// One text followed by the other.
 fn appended(alloc: Global, left: &str, right: &str) -> Px<Value>
