@@ -8,3 +8,5 @@ pub mod Built
 pub mod Each
 pub mod Made
 pub mod Beside
+pub mod Slices
+pub mod Consecutive

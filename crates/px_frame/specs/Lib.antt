@@ -5,6 +5,7 @@ pub mod Spread
 pub mod Parts
 pub mod Groups
 pub mod GroupsView
+pub mod Consecutive
 pub mod Enter
 pub mod External
 pub mod Ordered

@@ -54,7 +54,8 @@ fn sums(
 {
     let mut sums = Vec::with_capacity(alloc, groups.len() as usize)?;
     for index in 0..groups.len() {
-        let total = values.total_at(groups.group(index).rows());
+        let rows = groups.group(index).to_rows(alloc)?;
+        let total = values.total_at(&rows);
         sums.push(Some(wrapped_sum(dtype, total)))?;
     }
     Ok(sums)

@@ -13,7 +13,6 @@ use px_column::{Column, Name, Px, PxError};
 use std::alloc::Global;
 use std::marker::Model;
 
-
 /// A column of exactly one row (polars `ScalarColumn`), seen as that column.
 #[derive(Drop)]
 pub struct UnitColumn {

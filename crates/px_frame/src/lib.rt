@@ -6,6 +6,7 @@ mod cell;
 mod frame;
 mod grouping;
 mod groups;
+mod regroup;
 mod schema;
 
 pub use aggregate::{agg_sum, key_rows};

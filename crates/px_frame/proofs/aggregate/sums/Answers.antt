@@ -1,4 +1,4 @@
-use Rattle.std.proofs.Common.{◌≡◌, ◌∙◌, Some, ap, arith, ℤ}
+use Rattle.std.proofs.Common.{◌≡◌, ◌∙◌, Some, ap, arith, ℕ, ℤ, List}
 use Rattle.std.specs.Int.{w128, cast_signed, cast_unsigned}
 use Rattle.std.proofs.lemmas.Int.{ints}
 use Rattle.px_value.specs.Datum.{integer}
@@ -15,7 +15,8 @@ pub loop-index-preserved : goal.loop-index-preserved
 loop-index-preserved c =
     let g = lent_group c.group.result in
     let k = kind_of c.args.dtype.now in
-    let whole : c.total_at-total.result ≡ total (slots_at c.args.values.now.slots g.rows) = c.total_at-total.ensures ∙ ap (λ rows. total (slots_at c.args.values.now.slots rows)) c.rows.ensures in
+    let rows : c.deref.result.now ≡ g.rows = cc (c.deref.ensures.value, c.in_ok-rows.ensures) in
+    let whole : c.total_at-total.result ≡ total (slots_at c.args.values.now.slots g.rows) = c.total_at-total.ensures ∙ ap (λ (rs : List ℕ). total (slots_at c.args.values.now.slots rs)) rows in
     let same : cast_signed w128 (cast_unsigned w128 c.total_at-total.result) ≡ c.total_at-total.result = omega (arith, ints) in
     let value = ap Some (c.wrapped_sum.ensures.value ∙ ap (λ (z : ℤ). integer (wrapped k z)) (same ∙ whole)) in
     let inv = c.loop-index.invariant in
