@@ -10,3 +10,4 @@ pub mod Made
 pub mod Beside
 pub mod Slices
 pub mod Consecutive
+pub mod InOrder

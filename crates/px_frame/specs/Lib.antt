@@ -6,6 +6,8 @@ pub mod Parts
 pub mod Groups
 pub mod GroupsView
 pub mod Consecutive
+pub mod InOrder
+pub mod Unsigned
 pub mod Enter
 pub mod External
 pub mod Ordered

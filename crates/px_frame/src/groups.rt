@@ -1,8 +1,9 @@
 //! Groups of rows (polars `GroupsType` and `GroupPositions`).
-ghost use Rattle.std.specs.Prelude.{◌≡◌, ◌<◌, ◌==◌, ◌^◌, Ok, Some, length, map, slice_get, slice_index, true};
+ghost use Rattle.std.specs.Prelude.{◌≡◌, ◌<◌, ◌==◌, ◌^◌, Ok, IfOk, Some, length, map, slice_get, slice_index, true};
 ghost use Rattle.px_value.specs.Answer.{AnswersBy};
 ghost use Rattle.px_frame.specs.Frame.{are_below};
 ghost use Rattle.px_frame.specs.Groups.{is_group};
+ghost use Rattle.px_frame.specs.InOrder.{IsByFirst};
 ghost use Rattle.px_frame.specs.GroupsView.{all_end_within, all_rows_below};
 
 use px_column::{Px, PxError};
@@ -235,5 +236,17 @@ impl GroupPositions {
     {
         let _height = self.height;
         self.groups.group(index)
+    }
+
+    /// The same groups by their numbers `first`, those of one number in the order in which they stood
+    /// (polars `sort_groups`).
+    pub fn sort_groups(self, _alloc: Global) -> Px<GroupPositions>
+        ensures answer { AnswersBy (λ _. tt {0}) result (Ok (tt {0})) }
+        ensures height { IfOk result (λ g. g.height ≡ self.height) }
+        ensures sorted { IfOk result (λ g. IsByFirst self.groups g.groups) }
+    {
+        let GroupPositions { groups, height } = self;
+        let groups = groups.order_by_first()?;
+        Ok(GroupPositions { groups, height })
     }
 }

@@ -8,6 +8,7 @@ mod grouping;
 mod groups;
 mod regroup;
 mod schema;
+mod unsigned;
 
 pub use aggregate::{agg_sum, key_rows};
 pub use cell::{Cell, UnitColumn, assemble, spread};
@@ -15,3 +16,4 @@ pub use frame::{DataFrame, add_name};
 pub use grouping::group_by;
 pub use groups::{GroupPositions, GroupsIndicator, GroupsType, IdxVec};
 pub use schema::{Field, Schema, SchemaRef};
+pub use unsigned::convert_to_unsigned_index;

@@ -1,7 +1,7 @@
 use Rattle.std.proofs.Common.{◌≡◌, ◌+◌, ◌^◌, ◌<◌, ◌++◌, drop, fold, map, sum, vec_len}
 use Rattle.px_frame.specs.Consecutive.{slices_from}
 use Rattle.px_frame.specs.GroupsView.{slice_group}
-use Rattle.px_frame.proofs.groups.GroupPositions.consecutive.Given as goal
+use Rattle.px_frame.proofs.groups.GroupPositions.slices_of_lengths.Given as goal
 
 abbrev pub invariant-loop-len : goal.invariant-loop-len
 invariant-loop-len l = record {

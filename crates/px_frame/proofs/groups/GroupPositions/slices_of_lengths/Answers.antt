@@ -2,7 +2,7 @@ use Rattle.std.proofs.Common.{◌≤◌, ◌+◌, ◌^◌, arith, get_or, map}
 use Rattle.std.proofs.lemmas.Grind.{common_steps}
 use Rattle.px_frame.specs.GroupsView.{slice_group}
 use Rattle.px_frame.proofs.Consecutive.{too_long, slices_made, consecutive_made}
-use Rattle.px_frame.proofs.groups.GroupPositions.consecutive.Goals as goal
+use Rattle.px_frame.proofs.groups.GroupPositions.slices_of_lengths.Goals as goal
 
 pub returns-in_default : goal.returns-in_default
 returns-in_default c =
