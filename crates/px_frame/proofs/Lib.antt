@@ -11,3 +11,4 @@ pub mod Beside
 pub mod Slices
 pub mod Consecutive
 pub mod InOrder
+pub mod Reducing

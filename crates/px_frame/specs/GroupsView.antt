@@ -25,6 +25,11 @@ abbrev pub groups_of : GroupsType → List Group
 groups_of (Idx v) = map idx_group v.items
 groups_of (Slice v rolling) = map slice_group v.items
 
+-- the same groups, with another mark on slices
+abbrev pub with_rolling : Bool → GroupsType → GroupsType
+with_rolling rolling (Idx v) = Idx v
+with_rolling rolling (Slice v was) = Slice v rolling
+
 -- a group that is lent
 abbrev pub lent_group : GroupsIndicator → Group
 lent_group (Lent first rows) = record { first = first; rows = rows.now.items }

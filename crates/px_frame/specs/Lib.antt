@@ -12,6 +12,7 @@ pub mod Enter
 pub mod External
 pub mod Ordered
 pub mod Aggregate
+pub mod Reduced
 pub mod Schema
 pub mod SchemaView
 pub mod PartLaws
