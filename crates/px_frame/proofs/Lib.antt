@@ -10,3 +10,7 @@ pub mod Made
 pub mod Beside
 pub mod LookLaws
 pub mod PartLaws
+pub mod Slices
+pub mod Consecutive
+pub mod InOrder
+pub mod Reducing

@@ -1,6 +1,5 @@
 -- The frame of some rows is a frame.
-use Rattle.std.proofs.Common.{◌≡◌, ℕ, Bool, true, ◌&&◌, List, [], ◌∷◌, Some, Result, Ok, Err, length, map, refl, ◌∙◌, ap, nat_lt, if◌then◌else◌, arith}
-use Rattle.std.proofs.lemmas.Bool.Decides.{nat_tests}
+use Rattle.std.proofs.Common.{◌≡◌, ℕ, Bool, true, ◌&&◌, List, [], ◌∷◌, Some, Result, Ok, Err, length, map, refl, ◌∙◌, ap, nat_lt, if◌then◌else◌}
 use Rattle.std.proofs.lemmas.List.{length-map}
 use Rattle.px_column.specs.Prelude.{Slot, Series, slot_at}
 use Rattle.px_column.specs.Column.{taken_at, all_within}

@@ -32,6 +32,10 @@ group_of rows = record { first = first_row rows; rows = rows }
 abbrev pub rows_of : Groups → List (List ℕ)
 rows_of g = map (λ p. p.rows) g.groups
 
+-- the number of rows of each group
+abbrev pub lengths_of : Groups → List ℕ
+lengths_of g = map (λ p. length p.rows) g.groups
+
 -- the rows are below the height, and there are fewer than 2^32 of them
 abbrev pub is_group : ℕ → Group → Bool
 is_group height g = are_below height g.rows && nat_lt (length g.rows) (2 ^ 32)

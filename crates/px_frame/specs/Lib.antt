@@ -5,9 +5,13 @@ pub mod Spread
 pub mod Parts
 pub mod Groups
 pub mod GroupsView
+pub mod Consecutive
+pub mod InOrder
+pub mod Unsigned
 pub mod Enter
 pub mod External
 pub mod Ordered
 pub mod Aggregate
+pub mod Reduced
 pub mod Schema
 pub mod SchemaView

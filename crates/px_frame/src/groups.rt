@@ -1,18 +1,31 @@
 //! Groups of rows (polars `GroupsType` and `GroupPositions`).
-ghost use Rattle.std.specs.Prelude.{◌≡◌, ◌<◌, ◌==◌, ◌^◌, Some, length, map, slice_get, slice_index, true};
+ghost use Rattle.std.specs.Prelude.{◌≡◌, ◌<◌, ◌==◌, ◌^◌, Ok, IfOk, Some, length, map, slice_get, slice_index, true};
+ghost use Rattle.px_value.specs.Answer.{AnswersBy};
 ghost use Rattle.px_frame.specs.Frame.{are_below};
+ghost use Rattle.px_frame.specs.Groups.{is_group};
+ghost use Rattle.px_frame.specs.InOrder.{IsByFirst};
+ghost use Rattle.px_frame.specs.GroupsView.{all_end_within, all_rows_below};
 
+use px_column::{Px, PxError};
 use smallvec::SmallVec;
+use std::alloc::Global;
 use std::marker::Model;
 
 /// The row numbers of a group, with room for one inline.
 pub type IdxVec = SmallVec<u32, 1>;
 
-/// How groups are kept.
+/// How groups are kept (polars `GroupsType`).
 #[derive(Drop)]
 pub enum GroupsType {
     /// For each group a number `first` and its rows.
     Idx(Vec<(u32, IdxVec)>),
+    /// Rows that follow one another.
+    Slice {
+        /// For each group its first row, which is its number `first`, and the number of its rows.
+        groups: Vec<[u32; 2]>,
+        /// Whether the slices roll over the rows; changes no result.
+        rolling: bool,
+    },
 }
 
 /// Groups with the height that bounds their rows. A group may be empty, may overlap others and may
@@ -36,39 +49,51 @@ impl Model for GroupPositions {
     ghost invariant = { λ g. IsGroups g.height (groups_of g.groups) };
 }
 
-/// One group, lent.
+/// One group, lent (polars `GroupsIndicator`).
 #[derive(Clone, Copy)]
 pub enum GroupsIndicator<'a> {
     /// Its number `first`, and its rows.
     Idx(u32, &'a IdxVec),
+    /// Its first row, and the number of its rows.
+    Slice([u32; 2]),
 }
 
 impl GroupsIndicator<'_> {
     ghost use Rattle.px_frame.specs.GroupsView.{lent_group};
-
-    /// The rows, lent.
-    pub fn rows(&self) -> &[u32]
-        ensures { result.now ≡ (lent_group self.now).rows }
-    {
-        match self {
-            GroupsIndicator::Idx(_, rows) => rows.as_slice(),
-        }
-    }
 
     /// The number of rows, of which there are fewer than 2^32.
     pub fn len(&self) -> u32
         requires { length (lent_group self.now).rows < 2 ^ 32 }
         ensures { result ≡ length (lent_group self.now).rows }
     {
-        self.rows().len() as u32
+        match self {
+            GroupsIndicator::Idx(_, rows) => rows.len() as u32,
+            GroupsIndicator::Slice(range) => range[1],
+        }
     }
 
-    /// The row at a place.
+    /// The row at a place below the number of rows, of which each is below 2^32.
     pub fn row(&self, index: u32) -> u32
-        requires { index < length (lent_group self.now).rows }
+        requires group { is_group (2 ^ 32) (lent_group self.now) ≡ true }
+        requires within { index < length (lent_group self.now).rows }
         ensures { result ≡ slice_index (lent_group self.now).rows index }
     {
-        self.rows()[index as usize]
+        match self {
+            GroupsIndicator::Idx(_, rows) => rows.as_slice()[index as usize],
+            GroupsIndicator::Slice(range) => range[0] + index,
+        }
+    }
+
+    /// A copy of the rows in their order.
+    pub fn to_rows(&self, alloc: Global) -> Px<Vec<u32>>
+        requires { is_group (2 ^ 32) (lent_group self.now) ≡ true }
+        ensures { AnswersBy (λ v. v.items) result (Ok (lent_group self.now).rows) }
+    {
+        let mut rows = Vec::with_capacity(alloc, self.len() as usize)?;
+        for index in 0..self.len() {
+            rows.push(self.row(index))?;
+        }
+        Ok(rows)
     }
 }
 
@@ -83,8 +108,41 @@ fn are_below(height: u32, rows: &[u32]) -> bool
     true
 }
 
+/// Whether the rows of each index group are below the height.
+fn all_rows_below(height: u32, groups: &[(u32, IdxVec)]) -> bool
+    ensures { result ≡ all_rows_below height groups.now }
+{
+    for group in groups {
+        if !are_below(height, group.1.as_slice()) {
+            return false;
+        }
+    }
+    true
+}
+
+/// Whether each slice ends within the height.
+fn all_end_within(height: u32, slices: &[[u32; 2]]) -> bool
+    ensures { result ≡ all_end_within height slices.now }
+{
+    for slice in slices {
+        if u64::from(slice[0]) + u64::from(slice[1]) > u64::from(height) {
+            return false;
+        }
+    }
+    true
+}
+
 impl GroupsType {
-    ghost use Rattle.px_frame.specs.GroupsView.{groups_of, lent_group};
+    ghost use Rattle.px_frame.specs.GroupsView.{groups_of, is_within, lent_group};
+
+    fn is_within(&self, height: u32) -> bool
+        ensures { result ≡ is_within height self.now }
+    {
+        match self {
+            GroupsType::Idx(groups) => all_rows_below(height, groups),
+            GroupsType::Slice { groups, .. } => all_end_within(height, groups),
+        }
+    }
 
     fn group(&self, index: u32) -> GroupsIndicator<'_>
         requires { index < length (groups_of self.now) }
@@ -95,13 +153,28 @@ impl GroupsType {
                 let (first, rows) = &groups[index as usize];
                 GroupsIndicator::Idx(*first, rows)
             }
+            GroupsType::Slice { groups, .. } => GroupsIndicator::Slice(groups[index as usize]),
         }
     }
 }
 
 impl GroupPositions {
     ghost use Rattle.px_frame.specs.Groups.{IsGroups};
-    ghost use Rattle.px_frame.specs.GroupsView.{idx_group, lent_group};
+    ghost use Rattle.px_frame.specs.GroupsView.{are_short, groups_of, groups_within, idx_group, lent_group, slice_group};
+
+    /// These groups, of which there are fewer than 2^32, each of fewer than 2^32 rows; `OutOfBounds`
+    /// where a row is not below the height or a slice ends past it. Takes no memory.
+    pub fn new(groups: GroupsType, height: u32) -> Px<GroupPositions>
+        requires few { length (groups_of groups) < 2 ^ 32 }
+        requires short { are_short groups ≡ true }
+        ensures { result ≡ groups_within height groups }
+    {
+        if groups.is_within(height) {
+            Ok(GroupPositions { groups, height })
+        } else {
+            Err(PxError::OutOfBounds)
+        }
+    }
 
     /// Groups that are known to have rows below the height.
     pub(crate) fn from_rows(groups: Vec<(u32, IdxVec)>, height: u32) -> GroupPositions
@@ -114,6 +187,20 @@ impl GroupPositions {
         }
     }
 
+    /// Slices that are known to end within the height.
+    pub(crate) fn from_slices(groups: Vec<[u32; 2]>, height: u32) -> GroupPositions
+        requires { IsGroups height (map slice_group groups.items) }
+        ensures { result ≡ record { height = height; groups = map slice_group groups.items } }
+    {
+        GroupPositions {
+            groups: GroupsType::Slice {
+                groups,
+                rolling: false,
+            },
+            height,
+        }
+    }
+
     /// The number of groups.
     pub fn len(&self) -> u32
         ensures len { result ≡ length self.now.groups }
@@ -121,6 +208,7 @@ impl GroupPositions {
     {
         match &self.groups {
             GroupsType::Idx(groups) => groups.len() as u32,
+            GroupsType::Slice { groups, .. } => groups.len() as u32,
         }
     }
 
@@ -143,7 +231,22 @@ impl GroupPositions {
         requires { index < length self.now.groups }
         ensures group { slice_get self.now.groups index ≡ Some (lent_group result) }
         ensures short { length (lent_group result).rows < 2 ^ 32 }
+        ensures bounded { is_group (2 ^ 32) (lent_group result) ≡ true }
+        ensures below { are_below self.now.height (lent_group result).rows ≡ true }
     {
+        let _height = self.height;
         self.groups.group(index)
+    }
+
+    /// The same groups by their numbers `first`, those of one number in the order in which they stood
+    /// (polars `sort_groups`).
+    pub fn sort_groups(self, _alloc: Global) -> Px<GroupPositions>
+        ensures answer { AnswersBy (λ _. tt {0}) result (Ok (tt {0})) }
+        ensures height { IfOk result (λ g. g.height ≡ self.height) }
+        ensures sorted { IfOk result (λ g. IsByFirst self.groups g.groups) }
+    {
+        let GroupPositions { groups, height } = self;
+        let groups = groups.order_by_first()?;
+        Ok(GroupPositions { groups, height })
     }
 }

@@ -3,14 +3,22 @@
 
 mod aggregate;
 mod cell;
+mod distinct;
 mod frame;
 mod grouping;
 mod groups;
+mod reduce;
+mod regroup;
 mod schema;
+mod unsigned;
 
-pub use aggregate::{agg_sum, key_rows};
+pub use aggregate::{
+    agg_count, agg_first, agg_last, agg_list, agg_max, agg_min, agg_n_unique, agg_sum, key_rows,
+};
 pub use cell::{Cell, UnitColumn, assemble, spread};
 pub use frame::{DataFrame, add_name};
 pub use grouping::group_by;
 pub use groups::{GroupPositions, GroupsIndicator, GroupsType, IdxVec};
+pub use reduce::{list_groups, same_rows_reduce_alike};
 pub use schema::{Field, Schema, SchemaRef};
+pub use unsigned::convert_to_unsigned_index;

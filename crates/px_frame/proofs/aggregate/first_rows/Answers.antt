@@ -4,8 +4,8 @@ use Rattle.px_frame.specs.GroupsView.{lent_group}
 use Rattle.px_frame.proofs.Each.{some_row, first_is, map_next}
 use Rattle.px_frame.proofs.aggregate.first_rows.Goals as goal
 
-pub row-requires : goal.row-requires
-row-requires c = some_row c.args.groups.now.groups c.loop-index.index (lent_group c.group.result) c.requires c.group.ensures.group
+pub row-requires-clause-within : goal.row-requires-clause-within
+row-requires-clause-within c = some_row c.args.groups.now.groups c.loop-index.index (lent_group c.group.result) c.requires c.group.ensures.group
 
 pub loop-index-preserved : goal.loop-index-preserved
 loop-index-preserved c =
