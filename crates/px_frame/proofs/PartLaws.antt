@@ -5,10 +5,9 @@ use Rattle.std.proofs.lemmas.Bool.Decides.{nat_tests}
 use Rattle.std.proofs.lemmas.Grind.{fold-append}
 use Rattle.std.proofs.lemmas.List.{length-map}
 use Rattle.px_column.specs.Key.{key_at, keys_of}
-use Rattle.px_column.specs.KeyLaws.{keys_push}
-use Rattle.px_value.specs.Datum.{Slot}
-use Rattle.px_value.specs.Equality.{row_eq}
-use Rattle.px_value.specs.Series.{Series}
+use Rattle.px_column.proofs.KeyLaws.{keys_push}
+use Rattle.px_column.specs.Prelude.{Slot, Series}
+use Rattle.px_column.specs.Equality.{row_eq}
 use Rattle.px_frame.specs.Frame.{are_below}
 use Rattle.px_frame.specs.Groups.{group_of, is_group, IsGroups}
 use Rattle.px_frame.specs.Parts.{numbers, with_key, distinct, rows_of_keys, parts}

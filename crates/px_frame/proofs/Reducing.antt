@@ -1,12 +1,10 @@
 -- What a column holds at a group's rows, row by row, and one reduction for each group.
 use Rattle.std.proofs.Common.{◌≡◌, ℕ, zero, suc, ◌+◌, ◌^◌, ◌<◌, ◌&&◌, Bool, true, cond, List, [], ◌∷◌, ◌++◌, Option, Some, None, Result, Ok, Err, length, map, slice_get, slice_index, sum, nat_lt, take, add-one, refl, sym, ◌∙◌, ap, arith}
 use Rattle.std.proofs.lemmas.List.{length-map, length-take}
-use Rattle.px_value.specs.Datum.{Slot}
-use Rattle.px_value.specs.FitLaws.{fits_at}
-use Rattle.px_value.specs.Kind.{Kind, slot_fits, slots_fit}
-use Rattle.px_value.specs.Series.{Series, slot_at}
-use Rattle.px_operation.specs.Reduction.{kind_there, reduced_kind, reduced_slot, sum_slot}
-use Rattle.px_operation.specs.Sum.{sum_kind}
+use Rattle.px_column.specs.Prelude.{Slot, Kind, slot_fits, slots_fit, Series, slot_at}
+use Rattle.px_value.proofs.FitLaws.{fits_at}
+use Rattle.px_column.specs.Reduction.{kind_there, reduced_kind, reduced_slot, sum_slot}
+use Rattle.px_column.specs.Sum.{sum_kind}
 use Rattle.px_value.specs.declared.error.PxError.{PxError}
 use Rattle.px_value.specs.declared.error.PxError.TheVariants.{ComputeError}
 use Rattle.px_value.specs.declared.error.ComputeWhy.TheVariants.{TooLong}

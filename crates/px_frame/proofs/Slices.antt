@@ -5,7 +5,7 @@ use Rattle.std.specs.declared.alloc.Global.{Global}
 use Rattle.smallvec.specs.declared.SmallVec.{SmallVec}
 use Rattle.std.proofs.lemmas.Bool.Decides.{nat_tests}
 use Rattle.std.proofs.lemmas.List.FromFn.{length-range_with_len, get_or-range_with_len}
-use Rattle.px_value.specs.FitLaws.{both}
+use Rattle.px_value.proofs.FitLaws.{both}
 use Rattle.px_frame.specs.Frame.{are_below}
 use Rattle.px_frame.specs.Groups.{Group, is_group, IsGroups}
 use Rattle.px_frame.specs.GroupsView.{all_end_within, all_rows_below, are_short, groups_of, idx_group, is_within, slice_group}

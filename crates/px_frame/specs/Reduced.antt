@@ -1,9 +1,7 @@
 -- One value for each group: the reduction of a column at the group's rows.
 use Rattle.std.specs.Prelude.{◌^◌, Result, Ok, Err, map, nat_lt, sum, if◌then◌else◌}
-use Rattle.px_value.specs.Datum.{Slot}
-use Rattle.px_value.specs.Kind.{Kind}
-use Rattle.px_value.specs.Series.{Series}
-use Rattle.px_operation.specs.Reduction.{reduced_kind, reduced_slot}
+use Rattle.px_column.specs.Prelude.{Slot, Kind, Series}
+use Rattle.px_column.specs.Reduction.{reduced_kind, reduced_slot}
 use Rattle.px_value.specs.declared.error.PxError.{PxError}
 use Rattle.px_value.specs.declared.error.PxError.TheVariants.{ComputeError}
 use Rattle.px_value.specs.declared.error.ComputeWhy.TheVariants.{TooLong}

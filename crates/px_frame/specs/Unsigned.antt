@@ -1,9 +1,8 @@
 -- Places that are named by integers, which count from the end where they are negative.
 use Rattle.std.specs.Prelude.{ℕ, suc, ◌-◌, ℤ, pos, negsuc, Bool, true, List, Option, Some, None, Result, Ok, Err, is_some, map, nat_lt, if◌then◌else◌}
 use Rattle.std.specs.List.{list_all}
-use Rattle.px_value.specs.Datum.{integer, Slot}
-use Rattle.px_value.specs.Series.{Series}
-use Rattle.px_operation.specs.Operator.{is_integer_kind}
+use Rattle.px_column.specs.Prelude.{integer, Slot, Series}
+use Rattle.px_column.specs.Operator.{is_integer_kind}
 use Rattle.px_value.specs.declared.error.PxError.{PxError}
 use Rattle.px_value.specs.declared.error.PxError.TheVariants.{InvalidOperation, OutOfBounds}
 use Rattle.px_value.specs.declared.error.InvalidWhy.TheVariants.{Types}

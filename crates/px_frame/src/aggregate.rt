@@ -2,9 +2,7 @@
 //! and the like).
 ghost use Rattle.std.specs.Prelude.{◌≡◌, ◌+◌, ◌<◌, ◌^◌, Ok, Some, IfOk, length, map, true, vec_len};
 ghost use Rattle.std.specs.List.{list_all};
-ghost use Rattle.px_value.specs.Answer.{Answers, AnswersBy};
-ghost use Rattle.px_value.specs.Kind.{slots_fit, uint32s};
-ghost use Rattle.px_value.specs.View.{slots_of};
+ghost use Rattle.px_column.specs.Prelude.{Answers, AnswersBy, slots_fit, uint32s, slots_of};
 ghost use Rattle.px_value.specs.declared.method.GroupByMethod.TheVariants.{Min, Max, Sum, First, Last, NUnique, Count};
 ghost use Rattle.px_frame.specs.Aggregate.{key_column, has_row, summed_by, counts_of, count_column};
 ghost use Rattle.px_frame.specs.Frame.{all_have_height};

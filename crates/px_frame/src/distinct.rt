@@ -1,9 +1,8 @@
 //! The number of distinct values at the rows of each group, by a table of those seen so far.
 ghost use Rattle.std.specs.Prelude.{◌≡◌, ◌^◌, Ok, length, true};
-ghost use Rattle.px_value.specs.Answer.{Answers};
-ghost use Rattle.px_value.specs.KindView.{kind_of};
+ghost use Rattle.px_column.specs.Prelude.{Answers, kind_of};
 ghost use Rattle.px_value.specs.declared.method.GroupByMethod.TheVariants.{NUnique};
-ghost use Rattle.px_operation.specs.Reduction.{distinct_slots, reduced_kind};
+ghost use Rattle.px_column.specs.Reduction.{distinct_slots, reduced_kind};
 ghost use Rattle.px_frame.specs.Frame.{slots_at};
 ghost use Rattle.px_frame.specs.Groups.{is_group};
 ghost use Rattle.px_frame.specs.GroupsView.{lent_group};

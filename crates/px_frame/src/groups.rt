@@ -1,6 +1,6 @@
 //! Groups of rows (polars `GroupsType` and `GroupPositions`).
 ghost use Rattle.std.specs.Prelude.{◌≡◌, ◌<◌, ◌==◌, ◌^◌, Ok, IfOk, Some, length, map, slice_get, slice_index, true};
-ghost use Rattle.px_value.specs.Answer.{AnswersBy};
+ghost use Rattle.px_column.specs.Prelude.{AnswersBy};
 ghost use Rattle.px_frame.specs.Frame.{are_below};
 ghost use Rattle.px_frame.specs.Groups.{is_group};
 ghost use Rattle.px_frame.specs.InOrder.{IsByFirst};

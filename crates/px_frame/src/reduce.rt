@@ -1,11 +1,8 @@
 //! A column reduced at the rows of each group.
 ghost use Rattle.std.specs.Prelude.{◌≡◌, ℕ, ◌^◌, Bool, Ok, length, map, sum, true};
-ghost use Rattle.px_value.specs.Answer.{Answers, AnswersBy};
-ghost use Rattle.px_value.specs.KindView.{kind_of};
-ghost use Rattle.px_value.specs.Series.{Series};
-ghost use Rattle.px_value.specs.View.{slot_of};
-ghost use Rattle.px_operation.specs.Reduce.{is_taken};
-ghost use Rattle.px_operation.specs.Reduction.{reduced_kind};
+ghost use Rattle.px_column.specs.Prelude.{Answers, AnswersBy, kind_of, Series, slot_of};
+ghost use Rattle.px_column.specs.Reduce.{is_taken};
+ghost use Rattle.px_column.specs.Reduction.{reduced_kind};
 ghost use Rattle.px_frame.specs.Frame.{are_below};
 ghost use Rattle.px_frame.specs.Groups.{Groups, is_group, lengths_of, rows_of};
 ghost use Rattle.px_frame.specs.GroupsView.{groups_of, lent_group, with_rolling};

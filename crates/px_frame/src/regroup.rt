@@ -1,6 +1,6 @@
 //! Groups put in order, and laid out one after another.
 ghost use Rattle.std.specs.Prelude.{◌≡◌, ◌<◌, ◌^◌, Ok, IfOk, OnOk, length, map};
-ghost use Rattle.px_value.specs.Answer.{Answers, AnswersBy};
+ghost use Rattle.px_column.specs.Prelude.{Answers, AnswersBy};
 ghost use Rattle.px_frame.specs.Consecutive.{consecutive};
 ghost use Rattle.px_frame.specs.Groups.{IsGroups, lengths_of};
 ghost use Rattle.px_frame.specs.GroupsView.{groups_of, idx_group, slice_group};

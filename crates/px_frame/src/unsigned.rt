@@ -1,8 +1,7 @@
 //! Places that are named by integers (polars `convert_to_unsigned_index`).
 ghost use Rattle.std.specs.Prelude.{◌≡◌, Ok, Err, is_some, if◌then◌else◌, map};
 ghost use Rattle.std.specs.List.{list_all};
-ghost use Rattle.px_value.specs.Answer.{AnswersBy};
-ghost use Rattle.px_value.specs.LentView.{slot_of_ref};
+ghost use Rattle.px_column.specs.Prelude.{AnswersBy, slot_of_ref};
 ghost use Rattle.px_value.specs.declared.error.PxError.TheVariants.{OutOfBounds};
 ghost use Rattle.px_frame.specs.Unsigned.{names_place, place_at, place_of, places_of};
 

@@ -1,5 +1,5 @@
 use Rattle.std.proofs.Common.{◌≡◌, ◌∙◌, ◌<◌, ◌≤◌, ℕ, Bool, true, false, cond, length, ap, sym, arith}
-use Rattle.px_value.specs.Series.{slot_at}
+use Rattle.px_column.specs.Prelude.{slot_at}
 use Rattle.px_column.specs.Key.{key_at}
 use Rattle.px_column.proofs.Distinct.{row_of, distinct_row}
 use Rattle.px_frame.specs.Frame.{slots_at}

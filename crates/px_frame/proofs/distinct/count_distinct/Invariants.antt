@@ -1,5 +1,5 @@
 use Rattle.std.proofs.Common.{◌≡◌, ◌≤◌, length, map, take}
-use Rattle.px_operation.specs.Reduction.{distinct_slots}
+use Rattle.px_column.specs.Reduction.{distinct_slots}
 use Rattle.px_column.proofs.Distinct.{row_of}
 use Rattle.px_frame.specs.Frame.{slots_at}
 use Rattle.px_frame.specs.GroupsView.{lent_group}

@@ -1,9 +1,9 @@
 use Rattle.std.proofs.Common.{◌≡◌, ◌<◌, ◌^◌, pos, Some, ℤ, length, ap, arith}
 use Rattle.std.specs.Int.{w128, cast_signed}
 use Rattle.std.proofs.lemmas.Int.{ints}
-use Rattle.px_value.specs.Datum.{integer}
+use Rattle.px_column.specs.Prelude.{integer}
 use Rattle.px_value.specs.declared.method.GroupByMethod.TheVariants.{NUnique}
-use Rattle.px_operation.specs.Reduction.{distinct_slots}
+use Rattle.px_column.specs.Reduction.{distinct_slots}
 use Rattle.px_frame.specs.Frame.{slots_at}
 use Rattle.px_frame.specs.GroupsView.{lent_group}
 use Rattle.px_frame.specs.Reduced.{reduced_at}

@@ -1,5 +1,5 @@
 use Rattle.std.proofs.Common.{◌≡◌, map, take}
-use Rattle.px_value.specs.KindView.{kind_of}
+use Rattle.px_column.specs.Prelude.{kind_of}
 use Rattle.px_value.specs.declared.method.GroupByMethod.TheVariants.{NUnique}
 use Rattle.px_frame.specs.Reduced.{reduced_at}
 use Rattle.px_frame.proofs.distinct.count_distinct_groups_as.Given as goal

@@ -1,7 +1,5 @@
 use Rattle.std.proofs.Common.{◌≡◌, ◌∙◌, map, take}
-use Rattle.px_value.specs.Kind.{slot_fits}
-use Rattle.px_value.specs.KindView.{kind_of}
-use Rattle.px_value.specs.View.{slot_of}
+use Rattle.px_column.specs.Prelude.{slot_fits, kind_of, slot_of}
 use Rattle.px_frame.specs.GroupsView.{lent_group}
 use Rattle.px_frame.specs.Reduced.{reduced_at}
 use Rattle.px_frame.proofs.Reducing.{kind_is, reduced_at_fits, reduced_next}

@@ -1,7 +1,7 @@
 use Rattle.std.proofs.Common.{◌≡◌, ◌≤◌, ◌^◌, arith, length, nat_lt, true}
 use Rattle.px_frame.specs.Frame.{are_below}
 use Rattle.px_frame.specs.GroupsView.{lent_group}
-use Rattle.px_value.specs.FitLaws.{both}
+use Rattle.px_value.proofs.FitLaws.{both}
 use Rattle.px_frame.proofs.Each.{group_short}
 use Rattle.px_frame.proofs.Slices.{group_at, is_group_more}
 use Rattle.px_frame.proofs.groups.GroupPositions.group.Goals as goal
