@@ -1,7 +1,7 @@
 use Rattle.std.proofs.Common.{◌≡◌, ◌∙◌, ◌<◌, ◌≤◌, ℕ, Bool, true, false, cond, length, ap, sym, arith}
 use Rattle.px_column.specs.Prelude.{slot_at}
-use Rattle.px_column.specs.Key.{key_at}
-use Rattle.px_column.proofs.Distinct.{row_of, distinct_row}
+use Rattle.px_column.specs.Key.{key_at, row_of}
+use Rattle.px_column.proofs.Distinct.{distinct_row}
 use Rattle.px_frame.specs.Frame.{slots_at}
 use Rattle.px_frame.specs.GroupsView.{lent_group}
 use Rattle.px_frame.proofs.Reducing.{length_slots_at, slot_at_rows}

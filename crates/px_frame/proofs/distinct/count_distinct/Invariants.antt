@@ -1,6 +1,6 @@
 use Rattle.std.proofs.Common.{◌≡◌, ◌≤◌, length, map, take}
 use Rattle.px_column.specs.Reduction.{distinct_slots}
-use Rattle.px_column.proofs.Distinct.{row_of}
+use Rattle.px_column.specs.Key.{row_of}
 use Rattle.px_frame.specs.Frame.{slots_at}
 use Rattle.px_frame.specs.GroupsView.{lent_group}
 use Rattle.px_frame.proofs.distinct.count_distinct.Given as goal
