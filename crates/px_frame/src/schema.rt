@@ -17,7 +17,9 @@ use std::rc::Rc;
 /// A name and the type of what has it (polars `Field`).
 #[derive(Drop)]
 pub struct Field {
+    /// The name.
     pub name: Name,
+    /// The type.
     pub dtype: DataType,
 }
 
