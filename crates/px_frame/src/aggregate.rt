@@ -192,7 +192,7 @@ fn counts(alloc: Global, groups: &GroupPositions) -> Px<Vec<Option<Value>>>
 }
 
 impl GroupPositions {
-    /// The number of rows of each group, as UInt32 under the empty name.
+    /// The number of rows of each group, as UInt32 under the empty name (polars `group_count`).
     pub fn group_count(&self, alloc: Global) -> Px<Column>
         ensures { Answers result (Ok (count_column self.now)) }
     {
