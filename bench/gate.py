@@ -1,0 +1,88 @@
+"""Runs `rt ci` in a repository, sees twice a second what processor time each of its processes has taken, and prints whose it was."""
+import collections
+import os
+import re
+import subprocess
+import sys
+import time
+
+TICK = os.sysconf("SC_CLK_TCK")
+
+
+def fields(pid):
+    """The parent, the start and the processor seconds of a process."""
+    with open(f"/proc/{pid}/stat") as it:
+        after = it.read().rpartition(") ")[2].split()
+    return int(after[1]), after[19], (int(after[11]) + int(after[12])) / TICK
+
+
+def words(pid):
+    with open(f"/proc/{pid}/cmdline", "rb") as it:
+        return it.read().replace(b"\0", b" ").decode(errors="replace")
+
+
+def work_of(line):
+    """The crate and the kind of work of a check, where the line is one."""
+    crate = re.search(r"--crate-name (\w+)", line)
+    if not crate:
+        return None
+    kind = "edits" if "rt-edits-" in line else "tests" if " --test" in line else "proof"
+    return crate[1], kind
+
+
+def see(root, seen):
+    """Notes the seconds of each process under the root, under the check that it belongs to."""
+    parents, found = {}, {}
+    for pid in filter(str.isdigit, os.listdir("/proc")):
+        try:
+            parent, start, seconds = fields(pid)
+            parents[int(pid)] = (parent, work_of(words(pid)))
+            found[int(pid)] = (start, seconds)
+        except OSError:
+            continue
+    for pid, (start, seconds) in found.items():
+        at, work = pid, None
+        while at in parents and at != root:
+            work = work or parents[at][1]
+            at = parents[at][0]
+        if at == root and pid != root:
+            seen[pid, start] = (work or ("rt", "proof"), seconds)
+
+
+def chains(folder, proof):
+    """The longest chain of proofs: its seconds and its crates."""
+    longest = {}
+    with open(f"{folder}/crates.txt") as it:
+        for line in it:
+            name, colon, below = line.split("#")[0].partition(":")
+            if not colon:
+                continue
+            under = max((longest[dep] for dep in below.split() if dep in longest), default=(0, []))
+            longest[name.strip()] = (under[0] + proof.get(name.strip(), 0), [*under[1], name.strip()])
+    return max(longest.values()), list(longest)
+
+
+def main(folder):
+    begin = time.time()
+    gate = subprocess.Popen(["rt", "ci"], cwd=folder, stdout=sys.stderr)
+    seen = {}
+    while gate.poll() is None:
+        see(gate.pid, seen)
+        time.sleep(0.5)
+    used = os.times()
+    spent = collections.defaultdict(float)
+    for work, seconds in seen.values():
+        spent[work] += seconds
+    proof = {crate: seconds for (crate, kind), seconds in spent.items() if kind == "proof"}
+    (longest, path), names = chains(folder, proof)
+    print("| crate | proof | tests | edits |\n|---|--:|--:|--:|")
+    for name in names:
+        print(f"| {name} | " + " | ".join(f"{spent[name, kind]:.0f}" for kind in ("proof", "tests", "edits")) + " |")
+    print(
+        f"\nAll: {(used.children_user + used.children_system) / 60:.0f} processor minutes in {(time.time() - begin) / 60:.0f} minutes. "
+        f"Longest chain of proofs: {longest / 60:.1f} processor minutes, {', '.join(path)}."
+    )
+    return gate.returncode
+
+
+sys.exit(main(sys.argv[1]))
