@@ -1,6 +1,6 @@
 -- What a column node finds, and what its column is.
 use Rattle.std.proofs.Common.{◌≡◌, ◌==◌, ℕ, zero, suc, Bool, true, false, cond, ◌&&◌, ◌||◌, List, [], ◌∷◌, ◌++◌, Option, Some, None, Ok, Err, Result, Bor, IfSome, IfOk, inl, inr, drop, map, option_map, is_none, refl, sym, ◌∙◌, ap, arith}
-use Rattle.std.specs.List.{Contains, find, list_any, flat_map}
+use Rattle.std.specs.List.{find, list_any, flat_map}
 use Rattle.std.proofs.lemmas.Bool.Decides.{nat_tests}
 use Rattle.px_column.specs.Prelude.{Series, Answers, AnswersBy, Kind}
 use Rattle.px_frame.specs.External.{Frame, alone, scope_of, look_in}
@@ -15,10 +15,9 @@ use Rattle.px_tree.specs.Typing.{kind_of_name, refused_where}
 use Rattle.px_tree.specs.Value.{has_misfit}
 use Rattle.px_expr.specs.Planned.{Planned, PlannedColumn, found_by}
 use Rattle.px_expr.specs.Live.{field_on}
-use Rattle.px_expr.specs.Value.{IsValue, IsCause, causes_on, unfound_refusal}
+use Rattle.px_expr.specs.Value.{IsValue, IsOneOf, IsCause, causes_on, unfound_refusal}
 use Rattle.px_value.proofs.FitLaws.{both as both_true}
 use Rattle.px_frame.proofs.LookLaws.{field_look, names_same}
-use Rattle.px_value.proofs.Standing.{at_head}
 
 -- a name passes its own test
 pub name_self : (n : List ℕ) → name_eq n n ≡ true
@@ -107,12 +106,12 @@ found_is_value c columns s f l = record {
     kind = rw (field_look c.name columns, l) refl
 
 -- a node that finds no column has that as its cause
-pub unfound_is_cause : (c : PlannedColumn) (columns : List Series) → found_by c (alone columns) ≡ None → Contains (causes_on (record { tree = column c.name; columns = c ∷ [] }) (alone columns)) (ColumnNotFound c.name)
+pub unfound_is_cause : (c : PlannedColumn) (columns : List Series) → found_by c (alone columns) ≡ None → IsOneOf (ColumnNotFound c.name) (causes_on (record { tree = column c.name; columns = c ∷ [] }) (alone columns))
 unfound_is_cause c columns f = by (kind_of_name c.name (map column_field columns))
   where
-    by : (o : Option Kind) → Contains (refused_where (is_none o) (ColumnNotFound c.name) ++ flat_map (unfound_refusal (alone columns)) (c ∷ []) ++ refused_where (has_misfit (column c.name) (alone columns)) ShapeMismatch ++ []) (ColumnNotFound c.name)
-    by None = at_head _ _
-    by (Some k) = rw f (at_head _ _)
+    by : (o : Option Kind) → IsOneOf (ColumnNotFound c.name) (refused_where (is_none o) (ColumnNotFound c.name) ++ flat_map (unfound_refusal (alone columns)) (c ∷ []) ++ refused_where (has_misfit (column c.name) (alone columns)) ShapeMismatch ++ [])
+    by None = inl refl
+    by (Some k) = rw f (inl refl)
 
 -- the column behind others that is found is the one of its name
 pub behind_column : (n : List ℕ) (places : ℕ) (behind columns : List Series) (r : Option (Bor Series)) → option_map (λ c. c.now) r ≡ look n (drop places behind) → behind ≡ columns → IsFrame columns → IfSome r (λ c. look n columns ≡ Some c.now)

@@ -1,6 +1,6 @@
 -- A reduction's value, type and causes, from those of its input.
 use Rattle.std.proofs.Common.{◌≡◌, ℕ, ◌≤◌, ◌^◌, cond, Bool, true, false, not, List, [], ◌∷◌, ◌++◌, Option, Some, None, Result, Ok, Err, IfOk, IfErr, length, map, ◌⊎◌, inl, inr, max, refl, sym, ◌∙◌, ap, subst, arith}
-use Rattle.std.specs.List.{Contains, flat_map}
+use Rattle.std.specs.List.{flat_map}
 use Rattle.px_column.specs.Prelude.{Answers, AnswersBy, Slot, Kind, is_list_kind, uint32s, Series, slot_at}
 use Rattle.px_column.specs.Result.{◌>>=◌}
 use Rattle.px_column.specs.Reduction.{reduced, reduced_as, reduced_kind, reduced_slot, unless_list, kind_there}
@@ -24,11 +24,10 @@ use Rattle.px_tree.specs.declared.context.Context.TheVariants.{Default}
 use Rattle.px_expr.specs.Live.{field_of, field_on}
 use Rattle.px_expr.specs.NodeView.{reduction_plan}
 use Rattle.px_expr.specs.Planned.{Planned, PlannedReduction}
-use Rattle.px_expr.specs.Value.{IsValue, IsCause, causes_on, unfound_refusal}
-use Rattle.px_value.proofs.Standing.{at_head, in_rest, in_same}
+use Rattle.px_expr.specs.Value.{IsValue, IsOneOf, IsCause, causes_on, unfound_refusal}
 
 -- a cause of one expression is a cause of another where each size and each cause is
-pub cause_of : (e : PxError) (p q : Planned) (f g : Frame) → (2 ^ 32 ≤ size_on p.tree (f ∷ []) → 2 ^ 32 ≤ size_on q.tree (g ∷ [])) → (Contains (causes_on p f) e → Contains (causes_on q g) e) → IsCause e p f → IsCause e q g
+pub cause_of : (e : PxError) (p q : Planned) (f g : Frame) → (2 ^ 32 ≤ size_on p.tree (f ∷ []) → 2 ^ 32 ≤ size_on q.tree (g ∷ [])) → (IsOneOf e (causes_on p f) → IsOneOf e (causes_on q g)) → IsCause e p f → IsCause e q g
 cause_of OutOfMemory p q f g s c h = tt
 cause_of (ColumnNotFound n) p q f g s c h = c h
 cause_of (Duplicate n) p q f g s c h = c h
@@ -51,10 +50,10 @@ cause_of ShapeMismatch p q f g s c h = c h
 cause_of SchemaMismatch p q f g s c h = c h
 
 -- a cause among the inputs' refusals or further ones stays, whatever is an expression's own refusal
-among_first : (e : PxError) (rs own rest : List PxError) → Contains (rs ++ rest) e → Contains (or_first rs own ++ rest) e
+among_first : (e : PxError) (rs own rest : List PxError) → IsOneOf e (rs ++ rest) → IsOneOf e (or_first rs own ++ rest)
 among_first e (r ∷ rs) own rest h = h
 among_first e [] [] rest h = h
-among_first e [] (o ∷ own) rest h = in_rest o rest e h
+among_first e [] (o ∷ own) rest h = inr h
 
 -- the causes that are no refusals of the typing
 abbrev further : Planned → Frame → List PxError
@@ -73,7 +72,7 @@ pub input_cause : (e : PxError) (r : PlannedReduction) (f : Frame) → IsCause e
 input_cause e r f h =
     cause_of e r.input (reduction_plan r) f f (λ (b : 2 ^ 32 ≤ size_on r.input.tree (f ∷ [])). omega (arith, b))
     (λ c. rw (causes_apart (reduction_plan r) f)
-    (among_first e (refusals_of r.input.tree (scope_of f) Default) (refusal_of_one (reduced_kind r.method) (kind_in r.input.tree (scope_of f))) (further r.input f) (in_same e (causes_apart r.input f) c))) h
+    (among_first e (refusals_of r.input.tree (scope_of f) Default) (refusal_of_one (reduced_kind r.method) (kind_in r.input.tree (scope_of f))) (further r.input f) (subst (IsOneOf e) (causes_apart r.input f) c))) h
 
 no_front : {X : Type 0} (xs ys : List X) → xs ++ ys ≡ [] → (xs ≡ []) × (ys ≡ [])
 no_front [] ys h = (refl, h)
@@ -145,8 +144,8 @@ why_refused NUnique k e h = unless_refused k uint32s e h
 why_refused (Count b) k e h = absurd (cc h)
 why_refused Implode k e h = absurd (cc h)
 
-own_cause : (r : PlannedReduction) (f : Frame) (s : Series) (e : PxError) → IsValue r.input f s → reduced_kind r.method s.kind ≡ Err e → Contains (causes_on (reduction_plan r) f) e
-own_cause r f s e v h = rw (causes_apart (reduction_plan r) f) (rw ((no_front (refusals_of r.input.tree (scope_of f) Default) (further r.input f) (sym (causes_apart r.input f) ∙ v.sound)).0, v.kind, h) (at_head _ _))
+own_cause : (r : PlannedReduction) (f : Frame) (s : Series) (e : PxError) → IsValue r.input f s → reduced_kind r.method s.kind ≡ Err e → IsOneOf e (causes_on (reduction_plan r) f)
+own_cause r f s e v h = rw (causes_apart (reduction_plan r) f) (rw ((no_front (refusals_of r.input.tree (scope_of f) Default) (further r.input f) (sym (causes_apart r.input f) ∙ v.sound)).0, v.kind, h) (inl refl))
 
 refused_cause : (r : PlannedReduction) (f : Frame) (s : Series) (e : PxError) → IsValue r.input f s → (o : Result Kind PxError) → reduced_kind r.method s.kind ≡ o → reduced_as r.method s o ≡ Err e → IsCause e (reduction_plan r) f
 refused_cause r f s e v (Ok k) h g = absurd (cc g)

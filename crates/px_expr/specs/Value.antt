@@ -1,6 +1,6 @@
 -- What evaluating a node answers: the value of its expression as a column, or a cause for there being none.
 use Rattle.std.specs.Prelude.{◌≡◌, ◌⊎◌, ℕ, ◌^◌, ◌≤◌, Bool, true, false, List, [], ◌∷◌, ◌++◌, Option, Some, None, Result, Ok, Err, length, is_none, option_map}
-use Rattle.std.specs.List.{Contains, flat_map}
+use Rattle.std.specs.List.{flat_map}
 use Rattle.px_column.specs.Option.{◌>>=◌}
 use Rattle.px_column.specs.Prelude.{Series}
 use Rattle.px_value.specs.declared.error.PxError.{PxError}
@@ -49,9 +49,14 @@ pub record IsValue (p : Planned) (frame : Frame) (s : Series) : Type 0 where
   pub value : value_on p.tree frame ≡ Some (cell_of (is_unit p.tree) s.slots)
   pub unit : is_unit p.tree ≡ true → length s.slots ≡ 1
 
+-- it is one of these
+abbrev pub IsOneOf : PxError → List PxError → Type 0
+IsOneOf e [] = ⊥
+IsOneOf e (c ∷ cs) = (e ≡ c) ⊎ IsOneOf e cs
+
 -- why there may be no answer: memory was wanting, the expression or one in it has 2^32 values or more, or this is one of the
 -- causes
 abbrev pub IsCause : PxError → Planned → Frame → Type 0
 IsCause OutOfMemory p frame = Unit {0}
 IsCause (ComputeError TooLong) p frame = 2 ^ 32 ≤ size_on p.tree (frame ∷ [])
-IsCause e p frame = Contains (causes_on p frame) e
+IsCause e p frame = IsOneOf e (causes_on p frame)

@@ -1,7 +1,7 @@
 -- A group step's keys and columns: what they are, and what the step answers.
 use Rattle.std.proofs.Common.{◌≡◌, ◌⊎◌, inl, inr, ℕ, zero, suc, ◌<◌, ◌^◌, ◌==◌, Bool, true, false, not, ◌&&◌, List, [], ◌∷◌, ◌++◌, Option, Some, None, Result, Ok, Err, length, option_map, option_and_then, map, refl, sym, ◌∙◌, ap, subst, arith, append_assoc, replicate, if◌then◌else◌}
 use Rattle.std.specs.Prelude.{IfOk}
-use Rattle.std.specs.List.{Contains, flat_map, list_all, list_any}
+use Rattle.std.specs.List.{flat_map, list_all, list_any}
 use Rattle.std.specs.Option.{option_map_or}
 use Rattle.std.specs.Result.{result_ok}
 use Rattle.std.proofs.lemmas.Bool.Decides.{nat_tests}
@@ -14,7 +14,7 @@ use Rattle.px_value.specs.declared.error.ComputeWhy.TheVariants.{NoKey}
 use Rattle.px_tree.specs.Built.{is_built_tree}
 use Rattle.px_expr.specs.Plan.{planned_over}
 use Rattle.px_expr.specs.Planned.{Planned}
-use Rattle.px_expr.specs.Value.{IsCause}
+use Rattle.px_expr.specs.Value.{IsCause, IsOneOf}
 use Rattle.px_frame.specs.Aggregate.{key_column}
 use Rattle.px_frame.specs.Cell.{Cell, unit, rows}
 use Rattle.px_frame.specs.External.{Frame, alone, height, rows_of_frame, scope_of}
@@ -43,15 +43,13 @@ use Rattle.px_steps.proofs.Columns.{all_true, and_then_some, heights_of_keys, ke
 use Rattle.px_frame.proofs.LookLaws.{has_length}
 use Rattle.px_frame.proofs.LookLaws.{even_from}
 use Rattle.px_steps.proofs.Grouping.{accepted_lacks, no_refusal, value_there}
-use Rattle.px_steps.proofs.Selected.{name_kept, no_misfits, once_none, refuses_or}
+use Rattle.px_steps.proofs.Selected.{name_kept, no_misfits, once_none, one_left, one_right, refuses_or}
 use Rattle.px_steps.proofs.Named.{IsFirst_append, refuses_first, refuses_none}
 use Rattle.px_tree.proofs.KindLaws.{There, kind_there, none_left as nil_left, none_right as nil_right}
 use Rattle.std.proofs.lemmas.List.{append-nil as append_nil, map-append as map_append}
 use Rattle.px_value.proofs.EachLaws.{each_maps}
 use Rattle.px_value.proofs.FitLaws.{all_append}
 use Rattle.std.proofs.lemmas.List.Folds.{flat_map-map}
-use Rattle.px_value.proofs.Standing.{at_head, in_none, in_same}
-use Rattle.std.proofs.lemmas.List.Elements.{Contains-append_cases, Contains-append_left, Contains-append_right}
 
 -- a name of some more that stands twice
 pub repeat_more : (seen first more : List (List ℕ)) → first_repeat seen first ≡ None → first_repeat seen (first ++ more) ≡ first_repeat (seen ++ first) more
@@ -233,23 +231,32 @@ keys_sound frame (t ∷ ts) h =
     let heights = nil_right (faults_on t frame) (height_fault frame (value_on t frame)) own in
     (λ i. values i ++ rest.0 i, λ i. heights i ++ rest.1 i)
 
-key_fault_apart : (e : PxError) (frame : Frame) (ts : List Tree) → Contains (flat_map (key_faults frame) ts) e
-    → Contains (flat_map (λ t. faults_on t frame) ts) e ⊎ Contains (flat_map (λ t. height_fault frame (value_on t frame)) ts) e
-key_fault_apart e frame [] h = absurd (in_none e h)
-key_fault_apart e frame (t ∷ ts) h = by (Contains-append_cases (key_faults frame t) (flat_map (key_faults frame) ts) e h) (key_fault_apart e frame ts)
+one_apart : (e : PxError) (xs ys : List PxError) → IsOneOf e (xs ++ ys) → IsOneOf e xs ⊎ IsOneOf e ys
+one_apart e [] ys h = inr h
+one_apart e (x ∷ xs) ys (inl s) = inl (inl s)
+one_apart e (x ∷ xs) ys (inr h) = by (one_apart e xs ys h)
   where
-    own : Contains (faults_on t frame) e ⊎ Contains (height_fault frame (value_on t frame)) e → Contains (flat_map (λ t. faults_on t frame) (t ∷ ts)) e ⊎ Contains (flat_map (λ t. height_fault frame (value_on t frame)) (t ∷ ts)) e
-    own (inl o) = inl (Contains-append_left (faults_on t frame) (flat_map (λ t. faults_on t frame) ts) e o)
-    own (inr o) = inr (Contains-append_left (height_fault frame (value_on t frame)) (flat_map (λ t. height_fault frame (value_on t frame)) ts) e o)
+    by : IsOneOf e xs ⊎ IsOneOf e ys → IsOneOf e (x ∷ xs) ⊎ IsOneOf e ys
+    by (inl o) = inl (inr o)
+    by (inr o) = inr o
 
-    rest : Contains (flat_map (λ t. faults_on t frame) ts) e ⊎ Contains (flat_map (λ t. height_fault frame (value_on t frame)) ts) e → Contains (flat_map (λ t. faults_on t frame) (t ∷ ts)) e ⊎ Contains (flat_map (λ t. height_fault frame (value_on t frame)) (t ∷ ts)) e
-    rest (inl o) = inl (Contains-append_right (faults_on t frame) (flat_map (λ t. faults_on t frame) ts) e o)
-    rest (inr o) = inr (Contains-append_right (height_fault frame (value_on t frame)) (flat_map (λ t. height_fault frame (value_on t frame)) ts) e o)
+key_fault_apart : (e : PxError) (frame : Frame) (ts : List Tree) → IsOneOf e (flat_map (key_faults frame) ts)
+    → IsOneOf e (flat_map (λ t. faults_on t frame) ts) ⊎ IsOneOf e (flat_map (λ t. height_fault frame (value_on t frame)) ts)
+key_fault_apart e frame [] h = absurd h
+key_fault_apart e frame (t ∷ ts) h = by (one_apart e (key_faults frame t) (flat_map (key_faults frame) ts) h) (key_fault_apart e frame ts)
+  where
+    own : IsOneOf e (faults_on t frame) ⊎ IsOneOf e (height_fault frame (value_on t frame)) → IsOneOf e (flat_map (λ t. faults_on t frame) (t ∷ ts)) ⊎ IsOneOf e (flat_map (λ t. height_fault frame (value_on t frame)) (t ∷ ts))
+    own (inl o) = inl (one_left e (faults_on t frame) (flat_map (λ t. faults_on t frame) ts) o)
+    own (inr o) = inr (one_left e (height_fault frame (value_on t frame)) (flat_map (λ t. height_fault frame (value_on t frame)) ts) o)
 
-    by : Contains (key_faults frame t) e ⊎ Contains (flat_map (key_faults frame) ts) e
-        → (Contains (flat_map (key_faults frame) ts) e → Contains (flat_map (λ t. faults_on t frame) ts) e ⊎ Contains (flat_map (λ t. height_fault frame (value_on t frame)) ts) e)
-        → Contains (flat_map (λ t. faults_on t frame) (t ∷ ts)) e ⊎ Contains (flat_map (λ t. height_fault frame (value_on t frame)) (t ∷ ts)) e
-    by (inl o) more = own (Contains-append_cases (faults_on t frame) (height_fault frame (value_on t frame)) e o)
+    rest : IsOneOf e (flat_map (λ t. faults_on t frame) ts) ⊎ IsOneOf e (flat_map (λ t. height_fault frame (value_on t frame)) ts) → IsOneOf e (flat_map (λ t. faults_on t frame) (t ∷ ts)) ⊎ IsOneOf e (flat_map (λ t. height_fault frame (value_on t frame)) (t ∷ ts))
+    rest (inl o) = inl (one_right e (faults_on t frame) (flat_map (λ t. faults_on t frame) ts) o)
+    rest (inr o) = inr (one_right e (height_fault frame (value_on t frame)) (flat_map (λ t. height_fault frame (value_on t frame)) ts) o)
+
+    by : IsOneOf e (key_faults frame t) ⊎ IsOneOf e (flat_map (key_faults frame) ts)
+        → (IsOneOf e (flat_map (key_faults frame) ts) → IsOneOf e (flat_map (λ t. faults_on t frame) ts) ⊎ IsOneOf e (flat_map (λ t. height_fault frame (value_on t frame)) ts))
+        → IsOneOf e (flat_map (λ t. faults_on t frame) (t ∷ ts)) ⊎ IsOneOf e (flat_map (λ t. height_fault frame (value_on t frame)) (t ∷ ts))
+    by (inl o) more = own (one_apart e (faults_on t frame) (height_fault frame (value_on t frame)) o)
     by (inr o) more = rest (more o)
 
 -- a group step that is not refused
@@ -257,7 +264,7 @@ module _ (cs : List Series) (keys aggs : List Tree) (none : step_refusals (group
   accepted : first_of (step_refusals (group keys aggs None) (alone cs)) ≡ None
   accepted = ap first_of none
 
-  fault_told : (e : PxError) → Contains (step_faults (group keys aggs None) (alone cs)) e → (e ≡ OutOfMemory) ⊎ IsStepCause e (group keys aggs None) (alone cs)
+  fault_told : (e : PxError) → IsOneOf e (step_faults (group keys aggs None) (alone cs)) → (e ≡ OutOfMemory) ⊎ IsStepCause e (group keys aggs None) (alone cs)
   fault_told e o = inr (inr (accepted, inl o))
 
   abbrev key_values_faults : List PxError
@@ -275,9 +282,9 @@ module _ (cs : List Series) (keys aggs : List Tree) (none : step_refusals (group
   key_cause e (inr (inr l)) = inr (inr (accepted, inr (l.0, omega (arith, l.1))))
   key_cause e (inr (inl o)) = by (key_fault_apart e (alone cs) keys o)
     where
-      by : Contains key_values_faults e ⊎ Contains key_height_faults e → (e ≡ OutOfMemory) ⊎ IsStepCause e (group keys aggs None) (alone cs)
-      by (inl v) = fault_told e (Contains-append_left ((key_values_faults ++ key_height_faults) ++ part_value_faults) _ e (Contains-append_left (key_values_faults ++ key_height_faults) part_value_faults e (Contains-append_left key_values_faults key_height_faults e v)))
-      by (inr h) = fault_told e (Contains-append_left ((key_values_faults ++ key_height_faults) ++ part_value_faults) _ e (Contains-append_left (key_values_faults ++ key_height_faults) part_value_faults e (Contains-append_right key_values_faults key_height_faults e h)))
+      by : IsOneOf e key_values_faults ⊎ IsOneOf e key_height_faults → (e ≡ OutOfMemory) ⊎ IsStepCause e (group keys aggs None) (alone cs)
+      by (inl v) = fault_told e (one_left e ((key_values_faults ++ key_height_faults) ++ part_value_faults) _ (one_left e (key_values_faults ++ key_height_faults) part_value_faults (one_left e key_values_faults key_height_faults v)))
+      by (inr h) = fault_told e (one_left e ((key_values_faults ++ key_height_faults) ++ part_value_faults) _ (one_left e (key_values_faults ++ key_height_faults) part_value_faults (one_right e key_values_faults key_height_faults h)))
 
   -- what it answers, where its keys have columns
   module _ (by : List Series) (made : each (key_on (alone cs)) keys ≡ Some by) where
@@ -302,7 +309,7 @@ module _ (cs : List Series) (keys aggs : List Tree) (none : step_refusals (group
         }
     group_answer (Err e) sound (inl m) short = inl m
     group_answer (Err e) sound (inr (inl o)) short =
-        fault_told e (Contains-append_left ((key_values_faults ++ key_height_faults) ++ part_value_faults) _ e (Contains-append_right (key_values_faults ++ key_height_faults) part_value_faults e (in_same e (sym agg_faults) o)))
+        fault_told e (one_left e ((key_values_faults ++ key_height_faults) ++ part_value_faults) _ (one_right e (key_values_faults ++ key_height_faults) part_value_faults (subst (IsOneOf e) (sym agg_faults) o)))
     group_answer (Err e) sound (inr (inr l)) short =
         let size : greatest (map (λ t. size_on t (frames_by (alone cs) keys)) aggs) ≡ greatest (map (λ t. size_on t (part_frames (alone cs) (parts_of by (height_of cs)))) aggs) = ap (λ (fs : List Frame). greatest (map (λ t. size_on t fs) aggs)) frames in
         inr (inr (accepted, inr (l.0, omega (arith, l.1, size))))
@@ -349,7 +356,7 @@ names_once frame keys aggs by h made =
 
 lacks_left : (e : PxError) (xs ys : List PxError) (n : ℕ) → Lacks e xs n → Lacks e (xs ++ ys) n
 lacks_left e xs ys n (inl m) = inl m
-lacks_left e xs ys n (inr (inl o)) = inr (inl (Contains-append_left xs ys e o))
+lacks_left e xs ys n (inr (inl o)) = inr (inl (one_left e xs ys o))
 lacks_left e xs ys n (inr (inr l)) = inr (inr l)
 
 -- why a key has no value
@@ -372,7 +379,7 @@ key_finds cs t c r n value sound a =
   where
     refused : (e f : PxError) → (e ≡ OutOfMemory) ⊎ ◌≡◌ {A = Result Series PxError} (Err f) (Err e) → Lacks e (faults_on t (alone cs) ++ f ∷ []) n
     refused e f (inl m) = inl m
-    refused e f (inr s) = let same : f ≡ e = cc in inr (inl (Contains-append_right (faults_on t (alone cs)) (f ∷ []) e (in_same e (ap (λ g. g ∷ []) (sym same)) (at_head e []))))
+    refused e f (inr s) = let same : f ≡ e = cc in inr (inl (one_right e (faults_on t (alone cs)) (f ∷ []) (inl (sym same))))
 
     by : (q : Result (List Slot) PxError) (r : Result Series PxError) → Answers r (with_slots c q) → Finds r (result_ok (with_slots c q)) (faults_on t (alone cs) ++ refused_by q) n
     by (Ok xs) (Ok s) b = let same : record { name = c.name; kind = c.kind; slots = xs } ≡ s = cc in ((λ i. sound i ++ []), ap Some same)

@@ -1,9 +1,10 @@
 -- What holds of a list holds of an item of it, and what holds of an item may hold of the list.
 use Rattle.std.proofs.Common.{◌≡◌, ◌⊎◌, inl, inr, ℕ, zero, suc, ◌+◌, ◌<◌, ◌≤◌, ◌^◌, Bool, true, ◌&&◌, List, [], ◌∷◌, ◌++◌, Option, Some, None, Result, Ok, Err, IfOk, option_map, option_and_then, length, drop, map, get_or, append_assoc, sum, refl, sym, ◌∙◌, ap, arith, subst}
-use Rattle.std.specs.List.{Contains, flat_map, list_all}
+use Rattle.std.specs.List.{flat_map, list_all}
 use Rattle.std.proofs.lemmas.List.{at_drop_more}
 use Rattle.std.proofs.lemmas.List.Sums.{sum_by-cons}
 use Rattle.px_value.specs.declared.error.PxError.{PxError}
+use Rattle.px_expr.specs.Value.{IsOneOf}
 use Rattle.px_steps.specs.Finds.{Lacks}
 use Rattle.px_column.specs.Option.{each}
 use Rattle.px_document.specs.Form.{with_front}
@@ -11,9 +12,8 @@ use Rattle.px_steps.specs.Meets.{IsFirst}
 use Rattle.px_steps.specs.Plain.{greatest}
 use Rattle.px_value.proofs.FitLaws.{both}
 use Rattle.px_steps.proofs.Named.{IsFirst_append}
+use Rattle.px_steps.proofs.Selected.{one_left, one_right}
 use Rattle.px_tree.proofs.KindLaws.{none_left as nil_left, none_right as nil_right}
-use Rattle.px_value.proofs.Standing.{in_same}
-use Rattle.std.proofs.lemmas.List.Elements.{Contains-append_left, Contains-append_right}
 
 -- an item stands in a list
 abbrev pub In : {A : Type 0} → A → List A → Type 0
@@ -40,10 +40,13 @@ in_none f [] x h n = absurd h
 in_none f (y ∷ ys) x (inl e) n = ap f e ∙ nil_left (f y) (flat_map f ys) n
 in_none f (y ∷ ys) x (inr h) n = in_none f ys x h (nil_right (f y) (flat_map f ys) n)
 
-pub in_one : {A : Type 0} (f : A → List PxError) (xs : List A) (x : A) (e : PxError) → In x xs → Contains (f x) e → Contains (flat_map f xs) e
+one_same : (e : PxError) (xs ys : List PxError) → xs ≡ ys → IsOneOf e xs → IsOneOf e ys
+one_same e xs ys s h = let P : List PxError → Type 0 = IsOneOf e in subst P s h
+
+pub in_one : {A : Type 0} (f : A → List PxError) (xs : List A) (x : A) (e : PxError) → In x xs → IsOneOf e (f x) → IsOneOf e (flat_map f xs)
 in_one f [] x e h o = absurd h
-in_one f (y ∷ ys) x e (inl s) o = Contains-append_left (f y) (flat_map f ys) e (in_same e (ap f s) o)
-in_one f (y ∷ ys) x e (inr h) o = Contains-append_right (f y) (flat_map f ys) e (in_one f ys x e h o)
+in_one f (y ∷ ys) x e (inl s) o = one_left e (f y) (flat_map f ys) (one_same e (f x) (f y) (ap f s) o)
+in_one f (y ∷ ys) x e (inr h) o = one_right e (f y) (flat_map f ys) (in_one f ys x e h o)
 
 pub in_greatest : {A : Type 0} (f : A → ℕ) (xs : List A) (x : A) → In x xs → f x ≤ greatest (map f xs)
 in_greatest f [] x h = absurd h

@@ -1,7 +1,7 @@
 -- What is known of planned expressions that are not refused: their types, their columns, and why they have no value.
 use Rattle.std.proofs.Common.{◌≡◌, ◌⊎◌, ◌<◌, ◌^◌, inl, inr, ℕ, Bool, true, false, not, ◌&&◌, ◌||◌, List, [], ◌∷◌, ◌++◌, Option, Some, None, Result, Ok, Err, option_map, option_and_then, map, arith, max, refl, sym, ◌∙◌, ap, subst}
 use Rattle.std.specs.Prelude.{IfOk, is_none, is_some}
-use Rattle.std.specs.List.{Contains, filter_map, find, flat_map, list_all, list_any}
+use Rattle.std.specs.List.{filter_map, find, flat_map, list_all, list_any}
 use Rattle.std.specs.Option.{option_map_or}
 use Rattle.std.specs.Result.{result_ok}
 use Rattle.px_column.specs.Prelude.{Answers, AnswersBy, Refuses, Kind, Series}
@@ -14,7 +14,7 @@ use Rattle.px_value.specs.declared.error.ComputeWhy.TheVariants.{TooLong}
 use Rattle.px_tree.specs.Built.{is_built_tree, is_sum}
 use Rattle.px_expr.specs.Plan.{plan_in, planned_over}
 use Rattle.px_expr.specs.Planned.{Planned, is_reserved}
-use Rattle.px_expr.specs.Value.{IsValue, IsCause, causes_on, unfound_refusal}
+use Rattle.px_expr.specs.Value.{IsValue, IsCause, IsOneOf, causes_on, unfound_refusal}
 use Rattle.px_frame.specs.External.{Frame, alone, scope_of}
 use Rattle.px_frame.specs.Cell.{Cell}
 use Rattle.px_frame.specs.Frame.{first_repeat, height_of, look, unless_repeated}
@@ -41,8 +41,6 @@ use Rattle.px_value.proofs.EachLaws.{each_maps}
 use Rattle.px_value.proofs.FitLaws.{both}
 use Rattle.px_steps.proofs.Named.{IsFirst_append, refuses_first, refuses_none}
 use Rattle.px_tree.proofs.KindLaws.{There, kind_there, name_there, none_left as nil_left, none_right as nil_right, none_first as inputs_none, none_own as own_none}
-use Rattle.px_value.proofs.Standing.{at_head, in_same}
-use Rattle.std.proofs.lemmas.List.Elements.{Contains-append_left, Contains-append_right}
 
 -- the planner's answer is told by the refusals
 pub planned_meets : {X : Type 0} (view : X → Planned) (t : Tree) (scope : Scope) (place : Context) (r : Result X PxError) → is_built_tree t ≡ true
@@ -111,6 +109,15 @@ value_named p frame s v =
 pub value_sound : (p : Planned) (frame : Frame) (s : Series) → IsValue p frame s → faults_on p.tree frame ≡ []
 value_sound p frame s v = nil_right (refusals_of p.tree (scope_of frame) Default ++ flat_map (unfound_refusal frame) p.columns ++ refused_where (has_misfit p.tree frame) ShapeMismatch) _ v.sound
 
+pub one_left : (e : PxError) (xs ys : List PxError) → IsOneOf e xs → IsOneOf e (xs ++ ys)
+one_left e [] ys h = absurd h
+one_left e (x ∷ xs) ys (inl h) = inl h
+one_left e (x ∷ xs) ys (inr h) = inr (one_left e xs ys h)
+
+pub one_right : (e : PxError) (xs ys : List PxError) → IsOneOf e ys → IsOneOf e (xs ++ ys)
+one_right e [] ys h = h
+one_right e (x ∷ xs) ys h = inr (one_right e xs ys h)
+
 pub cause_lacks : (e : PxError) (p : Planned) (frame : Frame) → IsCause e p frame → Lacks e (causes_on p frame) (size_on p.tree (frame ∷ []))
 cause_lacks OutOfMemory p frame h = inl refl
 cause_lacks (ComputeError TooLong) p frame h = inr (inr (refl, h))
@@ -128,12 +135,12 @@ faults_alone cs t b h = λ i. ((h i ++ leaves_found cs t b h i) ++ refused_where
 
 lacks_first : (e : PxError) (xs ys : List PxError) (m n : ℕ) → Lacks e xs m → Lacks e (xs ++ ys) (max m n)
 lacks_first e xs ys m n (inl h) = inl h
-lacks_first e xs ys m n (inr (inl h)) = inr (inl (Contains-append_left xs ys e h))
+lacks_first e xs ys m n (inr (inl h)) = inr (inl (one_left e xs ys h))
 lacks_first e xs ys m n (inr (inr h)) = inr (inr (h.0, omega (arith, h.1)))
 
 lacks_later : (e : PxError) (xs ys : List PxError) (m n : ℕ) → Lacks e ys n → Lacks e (xs ++ ys) (max m n)
 lacks_later e xs ys m n (inl h) = inl h
-lacks_later e xs ys m n (inr (inl h)) = inr (inl (Contains-append_right xs ys e h))
+lacks_later e xs ys m n (inr (inl h)) = inr (inl (one_right e xs ys h))
 lacks_later e xs ys m n (inr (inr h)) = inr (inr (h.0, omega (arith, h.1)))
 
 -- what one of some expressions lacks that are not refused
@@ -216,7 +223,7 @@ value_cause e ts cs built none once c = by (any_lacks cs e ts built none c)
   where
     by : Lacks e (flat_map (λ t. faults_on t (alone cs)) ts) (greatest (map (λ t. size_on t (alone cs ∷ [])) ts)) → (e ≡ OutOfMemory) ⊎ IsStepCause e (select ts) (alone cs)
     by (inl m) = inl m
-    by (inr (inl o)) = inr (inr (accepted ts cs none once, inl (Contains-append_left (flat_map (λ t. faults_on t (alone cs)) ts ++ uneven_fault (filter_map (named_value (alone cs)) ts)) _ e (Contains-append_left (flat_map (λ t. faults_on t (alone cs)) ts) _ e o))))
+    by (inr (inl o)) = inr (inr (accepted ts cs none once, inl (one_left e (flat_map (λ t. faults_on t (alone cs)) ts ++ uneven_fault (filter_map (named_value (alone cs)) ts)) _ (one_left e (flat_map (λ t. faults_on t (alone cs)) ts) _ o))))
     by (inr (inr l)) = inr (inr (accepted ts cs none once, inr (l.0, omega (arith, l.1))))
 
 -- the values of expressions, each of which has one
@@ -280,8 +287,8 @@ selected ts cs cells r none once values sound a low = by r a low
     fault e (inr f) =
         inr (inr (
           accepted ts cs none once,
-          inl (Contains-append_left (flat_map (λ t. faults_on t (alone cs)) ts ++ uneven_fault (filter_map (named_value (alone cs)) ts)) (misfit_faults (alone cs) ts) e
-              (Contains-append_right (flat_map (λ t. faults_on t (alone cs)) ts) _ e (in_same e (sym (uneven (Err e) f)) (at_head e [])))),
+          inl (one_left e (flat_map (λ t. faults_on t (alone cs)) ts ++ uneven_fault (filter_map (named_value (alone cs)) ts)) (misfit_faults (alone cs) ts)
+              (one_right e (flat_map (λ t. faults_on t (alone cs)) ts) _ (subst (IsOneOf e) (sym (uneven (Err e) f)) (inl refl)))),
         ))
 
     by : (q : Result (List Series) PxError) → Answers q (assembled cells) → IfOk q (λ f. height_of f < 2 ^ 32) → StepAnswers q (select ts) cs

@@ -7,6 +7,7 @@ use Rattle.std.proofs.lemmas.List.Sums.{sum_by-cons}
 use Rattle.px_column.specs.Prelude.{Series}
 use Rattle.px_value.specs.declared.error.PxError.{PxError}
 use Rattle.px_value.specs.declared.error.PxError.TheVariants.{OutOfMemory}
+use Rattle.px_expr.specs.Value.{IsOneOf}
 use Rattle.px_frame.specs.External.{Frame, alone}
 use Rattle.px_tree.specs.Built.{is_built}
 use Rattle.px_steps.specs.Causes.{AreRun, IsCauseIn, StandsIn, StepAnswers, StepsAnswer}
@@ -14,7 +15,6 @@ use Rattle.px_steps.specs.Plain.{AreValid, groupings_in, groupings_of, plain_on,
 use Rattle.px_tree.specs.Step.{PlainStep, step_view}
 use Rattle.px_tree.specs.declared.step.Step.{Step}
 use Rattle.px_value.proofs.FitLaws.{both}
-use Rattle.px_value.proofs.Standing.{in_none, in_same}
 
 -- a step before others that answer
 pub answer_first : (s : PlainStep) (steps : List PlainStep) (cs next : List Series) (r : Result (List Series) PxError) → StepAnswers (Ok next) s cs → StepsAnswer r steps next → StepsAnswer r (s ∷ steps) cs
@@ -64,7 +64,7 @@ answer_whole (s ∷ steps) k cs next r some is one rest =
 pub none_stands : (steps : List PlainStep) (frame : Frame) (e : PxError) → AreValid steps frame → StandsIn e steps frame → ⊥
 none_stands [] frame e v h = h
 none_stands (s ∷ steps) frame e v (inl (inl f)) = let no : None ≡ Some e = sym v.0.accepted ∙ f in cc
-none_stands (s ∷ steps) frame e v (inl (inr (a, inl o))) = in_none e (in_same e v.0.sound o)
+none_stands (s ∷ steps) frame e v (inl (inr (a, inl o))) = subst (IsOneOf e) v.0.sound o
 none_stands (s ∷ steps) frame e v (inl (inr (a, inr t))) = omega (arith, v.0.short, t.1)
 none_stands (s ∷ steps) frame e v (inr h) = none_stands steps h.0 e (v.1 h.0 h.1.0.made) h.1.1
 

@@ -1,12 +1,11 @@
 -- Steps that are run one after another, and why there may be no answer.
 use Rattle.std.specs.Prelude.{◌≡◌, ◌⊎◌, ◌^◌, ◌<◌, ◌≤◌, List, [], ◌∷◌, Some, None, Result, Ok, Err}
-use Rattle.std.specs.List.{Contains}
 use Rattle.px_column.specs.Prelude.{Series}
 use Rattle.px_value.specs.declared.error.PxError.{PxError}
 use Rattle.px_value.specs.declared.error.PxError.TheVariants.{ComputeError, OutOfMemory}
 use Rattle.px_value.specs.declared.error.ComputeWhy.TheVariants.{TooLong}
 use Rattle.px_expr.specs.Planned.{Planned}
-use Rattle.px_expr.specs.Value.{IsCause}
+use Rattle.px_expr.specs.Value.{IsCause, IsOneOf}
 use Rattle.px_frame.specs.External.{Frame, alone, height}
 use Rattle.px_steps.specs.Plain.{first_refusal, step_faults, step_on, step_size}
 use Rattle.px_tree.specs.Step.{PlainStep}
@@ -28,7 +27,7 @@ AreRun (s ∷ steps) frame last = (next : Frame) × (IsRun s frame next × AreRu
 abbrev pub IsStepCause : PxError → PlainStep → Frame → Type 0
 IsStepCause e s frame =
     (first_refusal s frame ≡ Some e)
-    ⊎ ((first_refusal s frame ≡ None) × (Contains (step_faults s frame) e ⊎ ((e ≡ ComputeError TooLong) × (2 ^ 32 ≤ step_size s frame))))
+    ⊎ ((first_refusal s frame ≡ None) × (IsOneOf e (step_faults s frame) ⊎ ((e ≡ ComputeError TooLong) × (2 ^ 32 ≤ step_size s frame))))
 
 -- such a cause stands at a step that is reached: at the first one, or that one is run and it stands in the others
 abbrev pub StandsIn : PxError → List PlainStep → Frame → Type 0

@@ -1,6 +1,6 @@
 -- What is found of expressions that are not refused: what they mean, or a fault, or too many values.
 use Rattle.std.specs.Prelude.{◌≡◌, ◌⊎◌, ℕ, ◌^◌, ◌≤◌, Bool, true, ◌&&◌, not, List, [], ◌∷◌, ◌++◌, Option, Some, Result, Ok, Err, map, if◌then◌else◌}
-use Rattle.std.specs.List.{Contains, flat_map}
+use Rattle.std.specs.List.{flat_map}
 use Rattle.std.specs.Option.{option_map_or}
 use Rattle.px_column.specs.Prelude.{Slot, Kind, lists, slot_fits, Series}
 use Rattle.px_value.specs.declared.error.PxError.{PxError}
@@ -10,6 +10,7 @@ use Rattle.px_value.specs.declared.error.ComputeWhy.TheVariants.{TooLong}
 use Rattle.px_tree.specs.Built.{is_built_tree}
 use Rattle.px_expr.specs.Plan.{planned_over}
 use Rattle.px_expr.specs.Planned.{Planned}
+use Rattle.px_expr.specs.Value.{IsOneOf}
 use Rattle.px_frame.specs.External.{Frame, rows_of_frame}
 use Rattle.px_frame.specs.Frame.{first_repeat, has_height, height_of}
 use Rattle.px_frame.specs.Groups.{is_list}
@@ -25,7 +26,7 @@ use Rattle.px_steps.specs.Plain.{grouped_kind, height_fault}
 
 -- memory was wanting, or one of some faults stands, or so many values are too many
 abbrev pub Lacks : PxError → List PxError → ℕ → Type 0
-Lacks e faults n = (e ≡ OutOfMemory) ⊎ (Contains faults e ⊎ ((e ≡ ComputeError TooLong) × (2 ^ 32 ≤ n)))
+Lacks e faults n = (e ≡ OutOfMemory) ⊎ (IsOneOf e faults ⊎ ((e ≡ ComputeError TooLong) × (2 ^ 32 ≤ n)))
 
 -- there is no fault, and what was found, seen by view, is what is meant; or why nothing was found, among so many values
 abbrev pub FindsBy : {X Y : Type 0} → (X → Y) → Result X PxError → Option Y → List PxError → ℕ → Type 0

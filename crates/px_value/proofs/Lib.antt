@@ -2,4 +2,3 @@ pub mod OrderRows
 pub mod FitLaws
 pub mod LengthLaws
 pub mod EachLaws
-pub mod Standing
