@@ -7,10 +7,10 @@ use Rattle.px_value.specs.declared.error.PxError.{PxError}
 use Rattle.px_value.specs.declared.error.PxError.TheVariants.{ShapeMismatch, SchemaMismatch}
 use Rattle.px_operation.specs.Operator.{is_boolean_kind}
 use Rattle.px_column.specs.Beside.{rows_to}
-use Rattle.px_column.specs.Rows.{filtered, is_true, kept_rows, with_rows}
+use Rattle.px_column.specs.Rows.{kept_column, is_true, kept_rows, with_rows}
 
-abbrev filtered_ok : Series → List Slot → Result Series PxError
-filtered_ok s xs = Ok (with_rows s xs)
+abbrev kept_ok : Series → List Slot → Result Series PxError
+kept_ok s xs = Ok (with_rows s xs)
 
 -- nothing is kept when either list is at its end
 pub kept_at_end : (mask xs : List Slot) → ((u : List Slot) × ((mask ≡ []) × (u ≡ []))) ⊎ ((u : List Slot) × ((xs ≡ []) × (u ≡ []))) → kept_rows mask xs ≡ []
@@ -38,7 +38,7 @@ rows_of_all [] n h = refl
 rows_of_all (m ∷ []) n h = ap (λ k. replicate k m) (sym h)
 rows_of_all (m ∷ k ∷ mask) n h = refl
 
-chosen_by : (k a b : Bool) (xs : List Slot) (s : Series) → k ≡ true → (a || b) ≡ true → (if k then (if a || b then Ok (with_rows s xs) else Err ShapeMismatch) else Err SchemaMismatch) ≡ filtered_ok s xs
+chosen_by : (k a b : Bool) (xs : List Slot) (s : Series) → k ≡ true → (a || b) ≡ true → (if k then (if a || b then Ok (with_rows s xs) else Err ShapeMismatch) else Err SchemaMismatch) ≡ kept_ok s xs
 chosen_by true a b xs s h e = rw e refl
 chosen_by false a b xs s h e = cc
 
@@ -51,13 +51,13 @@ or_left true b h = refl
 or_left false b h = cc
 
 -- a mask of as many rows
-pub filtered_beside : (s mask : Series) → is_boolean_kind mask.kind ≡ true → length mask.slots ≡ length s.slots → filtered s mask ≡ Ok (with_rows s (kept_rows mask.slots s.slots))
-filtered_beside s mask k h =
+pub kept_column_beside : (s mask : Series) → is_boolean_kind mask.kind ≡ true → length mask.slots ≡ length s.slots → kept_column s mask ≡ Ok (with_rows s (kept_rows mask.slots s.slots))
+kept_column_beside s mask k h =
     chosen_by (is_boolean_kind mask.kind) (length mask.slots == 1) (length mask.slots == length s.slots) (kept_rows (rows_to (length s.slots) mask.slots) s.slots) s k (or_right (length mask.slots == 1) (length mask.slots == length s.slots) (eq-eqb _ _ h))
-    ∙ ap (λ ms. filtered_ok s (kept_rows ms s.slots)) (rows_of_all mask.slots (length s.slots) h)
+    ∙ ap (λ ms. kept_ok s (kept_rows ms s.slots)) (rows_of_all mask.slots (length s.slots) h)
 
 -- a mask of one row
-pub filtered_one : (s mask : Series) → is_boolean_kind mask.kind ≡ true → length mask.slots ≡ 1 → filtered s mask ≡ Ok (with_rows s (kept_rows (replicate (length s.slots) (slot_at mask.slots 0)) s.slots))
-filtered_one s mask k h =
+pub kept_column_by_one : (s mask : Series) → is_boolean_kind mask.kind ≡ true → length mask.slots ≡ 1 → kept_column s mask ≡ Ok (with_rows s (kept_rows (replicate (length s.slots) (slot_at mask.slots 0)) s.slots))
+kept_column_by_one s mask k h =
     chosen_by (is_boolean_kind mask.kind) (length mask.slots == 1) (length mask.slots == length s.slots) (kept_rows (rows_to (length s.slots) mask.slots) s.slots) s k (or_left (length mask.slots == 1) (length mask.slots == length s.slots) (eq-eqb _ _ h))
-    ∙ ap (λ ms. filtered_ok s (kept_rows ms s.slots)) (rows_of_one mask.slots (length s.slots) h)
+    ∙ ap (λ ms. kept_ok s (kept_rows ms s.slots)) (rows_of_one mask.slots (length s.slots) h)

@@ -29,8 +29,8 @@ abbrev pub present_of : Series → Series
 present_of s = truths_of is_not_null_slot s
 
 -- the other truths
-abbrev pub negated : Series → Result Series PxError
-negated s = if is_boolean_kind s.kind then Ok (truths_of not_slot s) else Err (InvalidOperation Types)
+abbrev pub not_column : Series → Result Series PxError
+not_column s = if is_boolean_kind s.kind then Ok (truths_of not_slot s) else Err (InvalidOperation Types)
 
 -- a place holds true; a null does not
 abbrev pub is_true : Slot → Bool
@@ -42,31 +42,31 @@ abbrev pub kept_rows : List Slot → List Slot → List Slot
 kept_rows mask xs = map (λ p. p.1) (filter (λ p. is_true p.0) (zip mask xs))
 
 -- the column of the rows whose mask is true; a mask of one row stands for every row
-abbrev pub filtered : Series → Series → Result Series PxError
-filtered s mask =
+abbrev pub kept_column : Series → Series → Result Series PxError
+kept_column s mask =
     if is_boolean_kind mask.kind then
     (if length mask.slots == 1 || length mask.slots == length s.slots then Ok (with_rows s (kept_rows (rows_to (length s.slots) mask.slots) s.slots)) else Err ShapeMismatch)
     else Err SchemaMismatch
 
 -- the rows of a slice
-abbrev pub sliced : ℤ → Option ℤ → Series → Series
-sliced offset len s = with_rows s (window_of offset len s.slots)
+abbrev pub slice_column : ℤ → Option ℤ → Series → Series
+slice_column offset len s = with_rows s (window_of offset len s.slots)
 
 -- the rows from the last to the first
-abbrev pub reversed : Series → Series
-reversed s = with_rows s (reverse s.slots)
+abbrev pub reverse_column : Series → Series
+reverse_column s = with_rows s (reverse s.slots)
 
 -- each row is the one so many before it, where that is there
-abbrev pub shifted_by : ℤ → Series → Series
-shifted_by periods s = with_rows s (shifted periods s.slots)
+abbrev pub shift_column : ℤ → Series → Series
+shift_column periods s = with_rows s (shifted periods s.slots)
 
 -- the rows that hold a value
 abbrev pub without_nulls : Series → Series
 without_nulls s = with_rows s (present_slots s.slots)
 
 -- the rows of one column and then those of another of its type
-abbrev pub joined : Series → Series → Result Series PxError
-joined s t =
+abbrev pub joined_column : Series → Series → Result Series PxError
+joined_column s t =
     if kind_eq s.kind t.kind then
     (if nat_lt (length s.slots + length t.slots) (2 ^ 32) then Ok (with_rows s (s.slots ++ t.slots)) else Err (ComputeError TooLong))
     else Err (InvalidOperation Types)

@@ -96,7 +96,7 @@ impl ColumnBuilder {
 
 impl Column {
     /// No row yet of another column, under this one's name and of its type.
-    pub(crate) fn like(&self, alloc: Global, capacity: u32) -> Px<ColumnBuilder>
+    pub(crate) fn builder(&self, alloc: Global, capacity: u32) -> Px<ColumnBuilder>
         ensures { Answers result (Ok (record self.now { slots = [] })) }
     {
         let name = self.name().try_clone(alloc)?;

@@ -41,7 +41,7 @@ impl Column {
         if !are_within(self.len(), indices) {
             return Err(PxError::OutOfBounds);
         }
-        let mut rows = self.like(alloc, indices.len() as u32)?;
+        let mut rows = self.builder(alloc, indices.len() as u32)?;
         for index in indices {
             rows.push_ref(self.get_asked(*index))?;
         }

@@ -4,7 +4,7 @@ ghost use Rattle.px_value.specs.Answer.{Answers, AnswersBy};
 ghost use Rattle.px_value.specs.Kind.{slot_fits};
 ghost use Rattle.px_value.specs.LentView.{slot_of_ref};
 ghost use Rattle.px_operation.specs.Function.{clamped, slice_start, slice_stop, slice_window, slot_from};
-ghost use Rattle.px_column.specs.Rows.{joined, reversed, shifted_by, sliced, with_rows};
+ghost use Rattle.px_column.specs.Rows.{joined_column, reverse_column, shift_column, slice_column, with_rows};
 ghost use Rattle.px_column.specs.Window.{IsLimit, IsOffset};
 
 use crate::builder::ColumnBuilder;
@@ -87,7 +87,7 @@ impl Column {
         requires short { first + count < 2 ^ 32 }
         ensures { Answers result (Ok (with_rows self.now (take count (drop first self.now.slots)))) }
     {
-        let mut rows = self.like(alloc, count)?;
+        let mut rows = self.builder(alloc, count)?;
         for row in 0..count {
             rows.push_ref(self.get(first + row))?;
         }
@@ -100,7 +100,7 @@ impl Column {
     pub fn slice(&self, alloc: Global, offset: i128, length: Option<i128>) -> Px<Column>
         requires offset { IsOffset offset }
         requires length { IsLimit length }
-        ensures { Answers result (Ok (sliced offset length self.now)) }
+        ensures { Answers result (Ok (slice_column offset length self.now)) }
     {
         let (first, count) = slice_window(offset, length, self.len());
         self.window(alloc, first, count)
@@ -109,10 +109,10 @@ impl Column {
     /// The rows from the last to the first (polars `reverse`).
     #[tactic(auto, using(crate::proofs::Placing::reverse_more, crate::proofs::Placing::reverse_all))]
     pub fn reverse(&self, alloc: Global) -> Px<Column>
-        ensures { Answers result (Ok (reversed self.now)) }
+        ensures { Answers result (Ok (reverse_column self.now)) }
     {
         let len = self.len();
-        let mut rows = self.like(alloc, len)?;
+        let mut rows = self.builder(alloc, len)?;
         for row in 0..len {
             rows.push_ref(self.get(len - 1 - row))?;
         }
@@ -123,10 +123,10 @@ impl Column {
     /// there is no such row (polars `shift`).
     #[tactic(auto, using(crate::proofs::Placing::shift_all))]
     pub fn shift(&self, alloc: Global, periods: i64) -> Px<Column>
-        ensures { Answers result (Ok (shifted_by periods self.now)) }
+        ensures { Answers result (Ok (shift_column periods self.now)) }
     {
         let len = self.len();
-        let mut rows = self.like(alloc, len)?;
+        let mut rows = self.builder(alloc, len)?;
         for row in 0..len {
             rows.push_ref(self.get_before(row, periods))?;
         }
@@ -137,7 +137,7 @@ impl Column {
     /// types differ, then `TooLong` where both have 2^32 rows or more; after a refusal this column is
     /// as it was.
     pub fn append(&mut self, alloc: Global, other: &Column) -> Px<()>
-        ensures answer { AnswersBy (λ _. self.new) result (joined self.old other.now) }
+        ensures answer { AnswersBy (λ _. self.new) result (joined_column self.old other.now) }
         ensures err { OnErr result (self.new ≡ self.old) }
     {
         if !same_type(self.dtype(), other.dtype()) {
@@ -146,7 +146,7 @@ impl Column {
         let Some(len) = self.len().checked_add(other.len()) else {
             return Err(PxError::ComputeError(ComputeWhy::TooLong));
         };
-        let mut rows = self.like(alloc, len)?;
+        let mut rows = self.builder(alloc, len)?;
         rows.push_rows(self)?;
         rows.push_rows(other)?;
         *self = rows.finish()?;

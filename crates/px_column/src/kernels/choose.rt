@@ -14,7 +14,7 @@ use std::alloc::Global;
 use std::sync::ledger::Ledger;
 
 /// The first where the mask is true, else the second.
-fn chosen<'a>(
+fn choose<'a>(
     mask: Option<ValueRef<'_>>,
     first: Option<ValueRef<'a>>,
     second: Option<ValueRef<'a>>,
@@ -36,11 +36,11 @@ impl Column {
         requires other_len { length (rows_to len other.now.slots) ≡ len }
         ensures { Answers result (Ok (with_rows self.now (zipped_three chosen (rows_to len mask.now.slots) (rows_to len self.now.slots) (rows_to len other.now.slots)))) }
     {
-        let mut rows = self.like(alloc, len)?;
+        let mut rows = self.builder(alloc, len)?;
         for row in 0..len {
             let keep = mask.row_beside(row);
             let (x, y) = (self.row_beside(row), other.row_beside(row));
-            rows.push_ref(chosen(keep, x, y))?;
+            rows.push_ref(choose(keep, x, y))?;
         }
         rows.finish()
     }

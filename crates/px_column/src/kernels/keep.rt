@@ -2,7 +2,7 @@
 ghost use Rattle.std.specs.Prelude.{◌≡◌, Ok, length, replicate};
 ghost use Rattle.px_value.specs.Answer.{Answers};
 ghost use Rattle.px_value.specs.LentView.{slot_of_ref};
-ghost use Rattle.px_column.specs.Rows.{filtered, is_true, kept_rows, with_rows, without_nulls};
+ghost use Rattle.px_column.specs.Rows.{kept_column, is_true, kept_rows, with_rows, without_nulls};
 
 use crate::column::Column;
 use px_operation::is_boolean;
@@ -21,11 +21,11 @@ fn is_true(slot: Option<ValueRef<'_>>) -> bool
 
 impl Column {
     /// The rows whose mask is true, where there are as many of both.
-    fn kept_beside(&self, alloc: Global, mask: &Column) -> Px<Column>
+    fn keep_beside(&self, alloc: Global, mask: &Column) -> Px<Column>
         requires { length mask.now.slots ≡ length self.now.slots }
         ensures { Answers result (Ok (with_rows self.now (kept_rows mask.now.slots self.now.slots))) }
     {
-        let mut rows = self.like(alloc, 0)?;
+        let mut rows = self.builder(alloc, 0)?;
         for (keep, row) in mask.rows().zip(self.rows()) {
             if is_true(keep) {
                 rows.push_ref(row)?;
@@ -36,30 +36,30 @@ impl Column {
 
     /// All rows where this holds true, and else none.
     #[tactic(auto, using(crate::proofs::Keeping::kept_all, crate::proofs::Keeping::kept_nothing))]
-    fn kept_by_one(&self, alloc: Global, keep: Option<ValueRef<'_>>) -> Px<Column>
+    fn keep_by_one(&self, alloc: Global, keep: Option<ValueRef<'_>>) -> Px<Column>
         ensures { Answers result (Ok (with_rows self.now (kept_rows (replicate (length self.now.slots) (slot_of_ref keep.entry)) self.now.slots))) }
     {
         if is_true(keep) {
             self.try_clone(alloc)
         } else {
-            self.like(alloc, 0)?.finish()
+            self.builder(alloc, 0)?.finish()
         }
     }
 
     /// The rows whose mask is true; a null in the mask keeps no row, and a mask of one row stands for
     /// every row (polars `filter`). `SchemaMismatch` where the mask has no truths, then
     /// `ShapeMismatch` where it has another length.
-    #[tactic(auto, using(crate::proofs::Keeping::filtered_beside, crate::proofs::Keeping::filtered_one))]
+    #[tactic(auto, using(crate::proofs::Keeping::kept_column_beside, crate::proofs::Keeping::kept_column_by_one))]
     pub fn filter(&self, alloc: Global, mask: &Column) -> Px<Column>
-        ensures { Answers result (filtered self.now mask.now) }
+        ensures { Answers result (kept_column self.now mask.now) }
     {
         if !is_boolean(mask.dtype()) {
             return Err(PxError::SchemaMismatch);
         }
         if mask.len() == self.len() {
-            self.kept_beside(alloc, mask)
+            self.keep_beside(alloc, mask)
         } else if mask.len() == 1 {
-            self.kept_by_one(alloc, mask.get(0))
+            self.keep_by_one(alloc, mask.get(0))
         } else {
             Err(PxError::ShapeMismatch)
         }
@@ -69,7 +69,7 @@ impl Column {
     pub fn drop_nulls(&self, alloc: Global) -> Px<Column>
         ensures { Answers result (Ok (without_nulls self.now)) }
     {
-        let mut rows = self.like(alloc, self.len() - self.null_count())?;
+        let mut rows = self.builder(alloc, self.len() - self.null_count())?;
         for row in self.rows() {
             if row.is_some() {
                 rows.push_ref(row)?;

@@ -4,7 +4,7 @@ ghost use Rattle.px_value.specs.Answer.{Answers};
 ghost use Rattle.px_value.specs.LentView.{slot_of_ref};
 ghost use Rattle.px_value.specs.View.{slot_of};
 ghost use Rattle.px_operation.specs.Function.{not_slot};
-ghost use Rattle.px_column.specs.Rows.{negated, nulls_of, present_of};
+ghost use Rattle.px_column.specs.Rows.{not_column, nulls_of, present_of};
 
 use crate::column::Column;
 use crate::row_by_row::map_rows;
@@ -24,7 +24,7 @@ fn not_slot(slot: Option<ValueRef<'_>>) -> Option<Value>
 }
 
 /// Which rows are nulls.
-fn nulls(alloc: Global, column: &Column) -> Px<Column>
+fn null_rows(alloc: Global, column: &Column) -> Px<Column>
     ensures { Answers result (Ok (nulls_of column.now)) }
 {
     let name = column.name().try_clone(alloc)?;
@@ -34,7 +34,7 @@ fn nulls(alloc: Global, column: &Column) -> Px<Column>
 }
 
 /// Which rows hold a value.
-fn present(alloc: Global, column: &Column) -> Px<Column>
+fn present_rows(alloc: Global, column: &Column) -> Px<Column>
     ensures { Answers result (Ok (present_of column.now)) }
 {
     let name = column.name().try_clone(alloc)?;
@@ -44,8 +44,8 @@ fn present(alloc: Global, column: &Column) -> Px<Column>
 }
 
 /// The other truths, or `Types`.
-fn negated(alloc: Global, column: &Column) -> Px<Column>
-    ensures { Answers result (negated column.now) }
+fn not_column(alloc: Global, column: &Column) -> Px<Column>
+    ensures { Answers result (not_column column.now) }
 {
     if !is_boolean(column.dtype()) {
         return Err(PxError::InvalidOperation(InvalidWhy::Types));
@@ -67,7 +67,7 @@ impl Column {
         ensures ticks { kernels.new ≡ kernels.old + 1 }
     {
         kernels.tick();
-        nulls(alloc, self)
+        null_rows(alloc, self)
     }
 
     /// Whether each row holds a value (polars `is_not_null`); never a null itself. One step of the
@@ -77,16 +77,16 @@ impl Column {
         ensures ticks { kernels.new ≡ kernels.old + 1 }
     {
         kernels.tick();
-        present(alloc, self)
+        present_rows(alloc, self)
     }
 
     /// The other truth at each row, a null where there is a null (polars `not`); `Types` where the
     /// values are no truths. One step of the counter, whatever is answered.
     pub fn not<L: Ledger>(&self, alloc: Global, kernels: &mut Steps<L>) -> Px<Column>
-        ensures answer { Answers result (negated self.now) }
+        ensures answer { Answers result (not_column self.now) }
         ensures ticks { kernels.new ≡ kernels.old + 1 }
     {
         kernels.tick();
-        negated(alloc, self)
+        not_column(alloc, self)
     }
 }

@@ -18,8 +18,8 @@ loop-row-preserved c =
     let x = c.row_beside-x.ensures.value n c.loop-row-test.true in
     let y = c.row_beside-y.ensures.value n c.loop-row-test.true in
     let beside = slot_beside_three chosen ms xs ys c.loop-row.row (omega (arith, c.requires.mask_len)) (omega (arith, c.requires.self_len)) (omega (arith, c.requires.other_len)) in
-    let value : slot_of_ref c.chosen.result ≡ slot_at (zipped_three chosen ms xs ys) c.loop-row.row = c.chosen.ensures ∙ (λ i. chosen (m i) (x i) (y i)) ∙ sym beside in
-    built_more c.args.self.now.name c.args.self.now.kind (zipped_three chosen ms xs ys) c.loop-row.row c.loop-row.rows c.push_ref.new.self (slot_of_ref c.chosen.result)
+    let value : slot_of_ref c.choose.result ≡ slot_at (zipped_three chosen ms xs ys) c.loop-row.row = c.choose.ensures ∙ (λ i. chosen (m i) (x i) (y i)) ∙ sym beside in
+    built_more c.args.self.now.name c.args.self.now.kind (zipped_three chosen ms xs ys) c.loop-row.row c.loop-row.rows c.push_ref.new.self (slot_of_ref c.choose.result)
     (omega (arith, all)) c.loop-row.invariant c.in_ok-push_ref.ensures.ok value
 
 pub returns : goal.returns

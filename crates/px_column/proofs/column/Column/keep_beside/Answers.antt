@@ -2,7 +2,7 @@ use Rattle.std.specs.Iterator.Adapters.{zip_first, zip_second}
 use Rattle.px_column.specs.Rows.{kept_rows}
 use Rattle.px_column.proofs.Building.{built_whole}
 use Rattle.px_column.proofs.Keeping.{kept_at_end}
-use Rattle.px_column.proofs.column.Column.kept_beside.Goals as goal
+use Rattle.px_column.proofs.column.Column.keep_beside.Goals as goal
 
 pub returns : goal.returns
 returns c =

@@ -1,5 +1,5 @@
 use Rattle.px_operation.specs.Function.{is_null_slot}
-use Rattle.px_column.proofs.kernels.truths.nulls.Given as goal
+use Rattle.px_column.proofs.kernels.truths.null_rows.Given as goal
 
 abbrev pub ghost-map_rows : goal.ghost-map_rows
 ghost-map_rows a = is_null_slot

@@ -2,7 +2,7 @@ use Rattle.std.proofs.Common.{◌≡◌, ◌<◌, ◌^◌, ◌+◌, ◌++◌, le
 use Rattle.std.specs.Iterator.Adapters.{zip_first, zip_second}
 use Rattle.px_value.specs.Kind.{slots_fit}
 use Rattle.px_column.specs.Rows.{kept_rows}
-use Rattle.px_column.proofs.column.Column.kept_beside.Given as goal
+use Rattle.px_column.proofs.column.Column.keep_beside.Given as goal
 
 abbrev pub invariant-loop-keep : goal.invariant-loop-keep
 invariant-loop-keep l = record {
