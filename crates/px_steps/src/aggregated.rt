@@ -164,7 +164,8 @@ fn values_of_groups<L: Ledger, M: Ledger>(
     let mut values = Vec::with_capacity(alloc, groups.len() as usize)?;
     for index in 0..groups.len() {
         let group = groups.group(index);
-        values.push(value_of_rows(alloc, frame, group.rows(), node, state, kernels, groupings)?)?;
+        let rows = group.to_rows(alloc)?;
+        values.push(value_of_rows(alloc, frame, &rows, node, state, kernels, groupings)?)?;
     }
     Ok(values)
 }
