@@ -307,8 +307,8 @@ module _ (cs : List Series) (keys aggs : List Tree) (none : step_refusals (group
           accepted = accepted;
           sound = λ i. ((k.0 i ++ k.1 i) ++ (agg_faults ∙ h.0) i) ++ no_misfits cs (keys ++ aggs) i;
           made =
-            ap (λ o. option_map (λ columns. record (alone cs) { columns = columns }) (option_and_then (columns_on (alone cs) aggs) o)) made
-                ∙ ap (λ o. option_map (λ columns. record (alone cs) { columns = columns }) o) h.1;
+              ap (λ o. option_map (λ columns. record (alone cs) { columns = columns }) (option_and_then (columns_on (alone cs) aggs) o)) made
+              ∙ ap (λ o. option_map (λ columns. record (alone cs) { columns = columns }) o) h.1;
           short = short;
         }
     group_answer (Err e) sound (inl m) short = inl m

@@ -34,7 +34,6 @@ use std::alloc::Global;
 use std::rc::Rc;
 use std::sync::ledger::Ledger;
 
-
 /// Nothing, unless a key is refused over a schema, or is a list.
 fn accept_key(alloc: Global, key: &Expr, schema: &SchemaRef) -> Px<()>
     requires { is_built_tree (tree key.now) ≡ true }

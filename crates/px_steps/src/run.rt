@@ -8,7 +8,6 @@ ghost use Rattle.px_steps.specs.Plain.{AreValid, groupings_of};
 ghost use Rattle.px_document.specs.DocumentText.{IsDocument};
 ghost use Rattle.px_steps.specs.Run.{Calm, Ends, IsCommand, Silent};
 
-
 use crate::reply::{Reply, reply_to};
 use crate::status::Status;
 use px_column::Steps;

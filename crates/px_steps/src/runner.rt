@@ -8,7 +8,6 @@ ghost use Rattle.px_steps.specs.Causes.{AreRun, IsCauseIn, StepAnswers, StepsAns
 ghost use Rattle.px_steps.specs.Plain.{AreValid, groupings_in, groupings_of, plain_on};
 ghost use Rattle.px_tree.specs.Step.{step_view};
 
-
 use crate::group_step::group_step;
 use crate::select_step::select_step;
 use px_column::{Px, Steps};

@@ -1,6 +1,6 @@
 use Rattle.std.proofs.Common.{map}
 use Rattle.px_tree.specs.Step.{step_view}
-use Rattle.px_steps.proofs.StepLoop.{answer_whole, complete_told}
+use Rattle.px_steps.proofs.StepLoop.{answer_whole, complete_told, plain_told}
 use Rattle.px_steps.proofs.runner.run_steps.Goals as goal
 
 pub returns-in_ok-made-in-len1-up-clause-complete : goal.returns-in_ok-made-in-len1-up-clause-complete
@@ -8,4 +8,11 @@ returns-in_ok-made-in-len1-up-clause-complete g c =
     let steps = c.args.steps.now in
     let frame = c.args.frame.now in
     complete_told c.run_each.result (map step_view steps) frame
+    (answer_whole steps c.first-item.result frame c.in_ok-made-in-len1-up.made c.run_each.result c.in-len1-up.len_at_least c.first-item.is c.in_ok-made-in-len1-up.ensures.answer c.run_each.ensures.answer)
+
+pub returns-in_ok-made-in-len1-up-clause-plain : goal.returns-in_ok-made-in-len1-up-clause-plain
+returns-in_ok-made-in-len1-up-clause-plain g c =
+    let steps = c.args.steps.now in
+    let frame = c.args.frame.now in
+    plain_told c.run_each.result (map step_view steps) frame
     (answer_whole steps c.first-item.result frame c.in_ok-made-in-len1-up.made c.run_each.result c.in-len1-up.len_at_least c.first-item.is c.in_ok-made-in-len1-up.ensures.answer c.run_each.ensures.answer)
