@@ -17,3 +17,4 @@ pub mod Placing
 pub mod Between
 pub mod Exploding
 pub mod Sorting
+pub mod Casting

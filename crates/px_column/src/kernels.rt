@@ -1,6 +1,7 @@
 //! The kernels: what is computed from whole columns.
 
 mod arrange;
+mod cast;
 mod choose;
 mod distinct;
 mod explode;
