@@ -5,7 +5,6 @@ mod cast;
 mod choose;
 mod distinct;
 mod explode;
-mod extremes;
 mod interval;
 mod keep;
 mod membership;
