@@ -45,14 +45,3 @@ compared_three a b c r h =
     by false true true h = (refl, (refl, cc))
     by false true false h = cc
     by false false f h = cc
-
--- the same of two types
-pub compared_two : (a b r : Kind) → compared_kind a (b ∷ []) ≡ Ok r → (a ≡ b) × (r ≡ booleans)
-compared_two a b r h =
-    let p = by (list_any is_list_kind (a ∷ b ∷ [])) (kind_eq a b) h in
-    (kind_same a b p.0, p.1)
-  where
-    by : (t e : Bool) → (if t then Err (InvalidOperation ListKey) else kind_where (not (not e || false)) booleans) ≡ Ok r → (e ≡ true) × (r ≡ booleans)
-    by true e h = cc
-    by false true h = (refl, cc)
-    by false false h = cc
