@@ -2,8 +2,6 @@ pub mod Fitting
 pub mod Taking
 pub mod Building
 pub mod Beside
-pub mod Summing
-pub mod Extremes
 pub mod Distinct
 pub mod Counting
 pub mod Reducing
@@ -17,3 +15,4 @@ pub mod Placing
 pub mod Between
 pub mod Exploding
 pub mod Sorting
+pub mod Casting

@@ -8,7 +8,7 @@ use Rattle.px_value.specs.Series.{slot_at}
 use Rattle.px_operation.specs.Function.{shifted, slot_from}
 use Rattle.px_column.proofs.Taking.{take_row}
 
-pub slot_get : (xs : List Slot) (i : ℕ) → slot_at xs i ≡ get_or xs i None
+slot_get : (xs : List Slot) (i : ℕ) → slot_at xs i ≡ get_or xs i None
 slot_get [] i = refl
 slot_get (x ∷ xs) zero = refl
 slot_get (x ∷ xs) (suc i) = slot_get xs i

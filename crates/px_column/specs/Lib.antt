@@ -9,6 +9,7 @@ pub mod Chosen
 pub mod Interval
 pub mod Exploded
 pub mod Member
+pub mod Retyped
 pub mod Sorted
 pub use Rattle.px_value.specs.Option
 pub use Rattle.px_value.specs.Result

@@ -137,7 +137,8 @@ impl Column {
         Rows::over(self.items())
     }
 
-    fn items(&self) -> &[Option<Value>]
+    /// The rows, as they stand in memory.
+    pub(crate) fn items(&self) -> &[Option<Value>]
         ensures value { slots_of result.now ≡ self.now.slots }
         ensures fit { slots_fit self.now.kind self.now.slots ≡ true }
         ensures short { length self.now.slots < 2 ^ 32 }

@@ -1,10 +1,10 @@
 //! The kernels: what is computed from whole columns.
 
 mod arrange;
+mod cast;
 mod choose;
 mod distinct;
 mod explode;
-mod extremes;
 mod interval;
 mod keep;
 mod membership;

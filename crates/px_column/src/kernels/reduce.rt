@@ -1,15 +1,17 @@
 //! Reductions: all rows of a column become one value.
-ghost use Rattle.std.specs.Prelude.{◌≡◌, ◌+◌, Ok, Some};
+ghost use Rattle.std.specs.Prelude.{◌≡◌, ◌+◌, Ok, true};
 ghost use Rattle.px_value.specs.Answer.{Answers, AnswersBy};
-ghost use Rattle.px_value.specs.Datum.{list, slots};
 ghost use Rattle.px_value.specs.KindView.{kind_of};
+ghost use Rattle.px_operation.specs.Reduce.{is_taken};
 ghost use Rattle.px_operation.specs.Reduction.{count_slot, reduced, reduced_kind, reduced_slot, row_count};
 ghost use Rattle.px_value.specs.View.{slot_of};
 
 use crate::builder::ColumnBuilder;
 use crate::column::Column;
-use px_operation::reduced_type;
-use px_value::{DataType, GroupByMethod, Px, Steps, Value, Values, copy_slot};
+use px_operation::{
+    ImplodeReduce, MaxReduce, MinReduce, Reduce, SumReduce, reduce_rows, reduced_type,
+};
+use px_value::{DataType, GroupByMethod, Px, Steps, Value, copy_slot};
 use std::alloc::Global;
 use std::sync::ledger::Ledger;
 
@@ -40,31 +42,28 @@ impl Column {
         reduced_type(alloc, method, self.dtype().try_clone(alloc)?)
     }
 
-    /// The list of all rows.
-    fn imploded(&self, alloc: Global) -> Px<Option<Value>>
-        ensures { AnswersBy slot_of result (Ok (Some (list (slots self.now.slots)))) }
+    /// The reduction of all rows, which a state absorbs one by one.
+    fn reduce_by<R: Reduce + Drop>(&self, alloc: Global) -> Px<Option<Value>>
+        requires { is_taken R.method self.now.kind ≡ true }
+        ensures { AnswersBy slot_of result (Ok (reduced_slot R.method self.now.kind self.now.slots)) }
     {
-        let mut items = Vec::with_capacity(alloc, self.len() as usize)?;
-        for row in self.rows() {
-            items.push(copy_slot(alloc, row)?)?;
-        }
-        Ok(Some(Value::List(Values::from_vec(items))))
+        reduce_rows::<R>(alloc, self.dtype(), self.items())
     }
 
-    /// What all rows become, where that is of the type `dtype`.
-    fn reduced(&self, alloc: Global, method: GroupByMethod, dtype: &DataType) -> Px<Option<Value>>
-        requires { reduced_kind method self.now.kind ≡ Ok (kind_of dtype.now) }
+    /// What all rows become. The first and the last row are read in place.
+    fn reduce_as(&self, alloc: Global, method: GroupByMethod) -> Px<Option<Value>>
+        requires { is_taken method self.now.kind ≡ true }
         ensures { AnswersBy slot_of result (Ok (reduced_slot method self.now.kind self.now.slots)) }
     {
         match method {
-            GroupByMethod::Min => copy_slot(alloc, self.least()),
-            GroupByMethod::Max => copy_slot(alloc, self.greatest()),
-            GroupByMethod::Sum => Ok(Some(self.sum(dtype))),
+            GroupByMethod::Min => self.reduce_by::<MinReduce>(alloc),
+            GroupByMethod::Max => self.reduce_by::<MaxReduce>(alloc),
+            GroupByMethod::Sum => self.reduce_by::<SumReduce>(alloc),
             GroupByMethod::First => copy_slot(alloc, self.get_or_null(0)),
             GroupByMethod::Last => copy_slot(alloc, self.get_or_null(self.len().saturating_sub(1))),
             GroupByMethod::NUnique => Ok(count(self.distinct_count(alloc)?)),
             GroupByMethod::Count { include_nulls } => Ok(count(self.row_count(include_nulls))),
-            GroupByMethod::Implode => self.imploded(alloc),
+            GroupByMethod::Implode => self.reduce_by::<ImplodeReduce>(alloc),
         }
     }
 
@@ -75,7 +74,7 @@ impl Column {
     {
         // Each row fits the type, and so does what they become.
         let _ = self.rows();
-        let slot = self.reduced(alloc, method, &dtype)?;
+        let slot = self.reduce_as(alloc, method)?;
         let name = self.name().try_clone(alloc)?;
         let mut rows = ColumnBuilder::new(alloc, name, dtype, 1)?;
         rows.push(slot)?;

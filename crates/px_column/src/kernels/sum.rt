@@ -1,15 +1,10 @@
-//! Sums of the present values of a column, as polars' `sum` gives them, wrapping in the result's type.
-ghost use Rattle.std.specs.Prelude.{◌≡◌, ◌+◌, ◌<◌, ◌^◌, ◌+ℤ◌, Some, length, map};
-ghost use Rattle.px_value.specs.Datum.{integer};
-ghost use Rattle.px_value.specs.KindView.{kind_of};
+//! Sums of the present values of a column at some of its rows.
+ghost use Rattle.std.specs.Prelude.{◌≡◌, ◌+◌, ◌<◌, ◌^◌, ◌+ℤ◌, length, map};
 ghost use Rattle.px_value.specs.Series.{slot_at};
-ghost use Rattle.px_operation.specs.Sum.{addend, total, sum_kind, IsWithin};
-ghost use Rattle.px_operation.specs.Wrap.{wrapped_in};
-ghost use Rattle.px_value.specs.View.{datum_of};
+ghost use Rattle.px_operation.specs.Sum.{addend, total, IsWithin};
 
 use crate::column::Column;
-use px_operation::{number, wrapped_sum};
-use px_value::{DataType, Value};
+use px_operation::number;
 
 impl Column {
     /// The sum with one more row, where it is the sum of `count` rows so far.
@@ -34,24 +29,5 @@ impl Column {
             count += 1;
         }
         sum
-    }
-
-    /// The sum of the present values, whole.
-    fn total(&self) -> i128
-        ensures { result ≡ total self.now.slots }
-    {
-        let mut sum = 0;
-        for row in 0..self.len() {
-            sum = self.plus_row(sum, row, row);
-        }
-        sum
-    }
-
-    /// The sum of the present values in its type, which is there for the values of this column.
-    pub(crate) fn sum(&self, dtype: &DataType) -> Value
-        requires { sum_kind self.now.kind ≡ Some (kind_of dtype.now) }
-        ensures { datum_of result ≡ integer (wrapped_in (kind_of dtype.now) (total self.now.slots)) }
-    {
-        wrapped_sum(dtype, self.total())
     }
 }

@@ -2,7 +2,7 @@ use Rattle.std.proofs.Common.{arith}
 use Rattle.std.proofs.lemmas.Int.{ints}
 use Rattle.px_value.specs.LentView.{slot_of_ref}
 use Rattle.px_operation.specs.Sum.{addend, IsWithin}
-use Rattle.px_column.proofs.Summing.{number_within}
+use Rattle.px_operation.proofs.SumLaws.{number_within}
 use Rattle.px_column.proofs.column.Column.plus_row.Goals as goal
 
 pub returns-clause-within : goal.returns-clause-within
