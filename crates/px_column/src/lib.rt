@@ -16,7 +16,7 @@ pub use column::Column;
 pub use kernels::{prepare_bool_vec, slice_window};
 pub use px_operation::{
     cast_type, is_boolean, is_cast, is_integer, operator_type, reduced_type, same_type, sum_type,
-    type_where, wrapped_sum,
+    type_where, wrap_sum,
 };
 pub use px_value::{
     ByteString, CastOptions, ClosedInterval, ComputeWhy, DataType, Flags, GroupByMethod,

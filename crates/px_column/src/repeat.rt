@@ -13,7 +13,7 @@ use crate::column::Column;
 use px_value::{DataType, Name, Px, Value, ValueRef};
 use std::alloc::Global;
 
-fn repeated(
+fn repeat_slot(
     alloc: Global,
     name: Name,
     dtype: DataType,
@@ -37,14 +37,14 @@ impl Column {
         requires { fits (kind_of dtype) (datum_of value) ≡ true }
         ensures { Answers result (Ok (repeated name (kind_of dtype) (Some (datum_of value)) len)) }
     {
-        repeated(alloc, name, dtype, Some(value.lend()), len)
+        repeat_slot(alloc, name, dtype, Some(value.lend()), len)
     }
 
     /// The column of `len` nulls (polars `Series::full_null`).
     pub fn full_null(alloc: Global, name: Name, len: u32, dtype: DataType) -> Px<Column>
         ensures { Answers result (Ok (repeated name (kind_of dtype) None len)) }
     {
-        repeated(alloc, name, dtype, None, len)
+        repeat_slot(alloc, name, dtype, None, len)
     }
 
     /// The column of what this one holds at `index`, which is below its length, at each of `len`
@@ -55,6 +55,6 @@ impl Column {
     {
         let name = self.name().try_clone(alloc)?;
         let dtype = self.dtype().try_clone(alloc)?;
-        repeated(alloc, name, dtype, self.get(index), len)
+        repeat_slot(alloc, name, dtype, self.get(index), len)
     }
 }

@@ -5,7 +5,7 @@ ghost use Rattle.px_value.specs.LentView.{slot_of_ref};
 ghost use Rattle.px_value.specs.View.{slot_of};
 ghost use Rattle.px_operation.specs.Function.{above, below, between_slot, is_not_null_slot, is_null_slot, not_slot};
 
-use crate::operators::{both, compared, truth, truth_of};
+use crate::operators::{both, compare_slots, truth, truth_of};
 use px_value::{ClosedInterval, Operator, Value, ValueRef, lend};
 
 /// Whether there is no value (polars `is_null`). It is never a null, and takes every type.
@@ -63,7 +63,7 @@ pub fn is_between(
 ) -> Option<Value>
     ensures { (k : Kind) → slot_of result ≡ between_slot k closed (slot_of_ref slot.entry) (slot_of_ref low.entry) (slot_of_ref high.entry) }
 {
-    let from = compared(above(closed), slot, low);
-    let to = compared(below(closed), slot, high);
+    let from = compare_slots(above(closed), slot, low);
+    let to = compare_slots(below(closed), slot, high);
     both(truth_of(lend(&from)), truth_of(lend(&to)))
 }

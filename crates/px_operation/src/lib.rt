@@ -8,7 +8,7 @@ mod reductions;
 pub mod rows;
 mod sum;
 mod types;
-mod wrap;
+mod wrapping;
 
 pub use casts::cast_value;
 pub use functions::{is_between, is_not_null, is_null, not};
@@ -17,9 +17,9 @@ pub use reductions::{
     CountReduce, FirstReduce, ImplodeReduce, LastReduce, MaxReduce, MinReduce, Reduce, SumReduce,
     reduce_parts, reduce_rows, state_of,
 };
-pub use sum::{number, wrapped_sum};
+pub use sum::{number, wrap_sum};
 pub use types::{
     cast_type, is_boolean, is_cast, is_integer, operator_type, reduced_type, same_type, sum_type,
     type_where,
 };
-pub use wrap::wrapped;
+pub use wrapping::wrap;

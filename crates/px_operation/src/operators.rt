@@ -16,7 +16,7 @@ mod truth;
 
 use crate::types::is_boolean;
 use bits::bit_by_bit;
-pub(crate) use comparison::compared;
+pub(crate) use comparison::compare_slots;
 use number::arithmetic;
 pub(crate) use number::number_in;
 use px_value::{DataType, Name, Operator, Px, Value, ValueRef};
@@ -25,7 +25,7 @@ pub(crate) use truth::{both, truth, truth_of};
 use truth::{either, exactly_one};
 
 /// One text followed by the other.
-fn appended(alloc: Global, left: &str, right: &str) -> Px<Value>
+fn append_texts(alloc: Global, left: &str, right: &str) -> Px<Value>
     ensures { AnswersBy datum_of result (Ok (text (left.now ++ right.now))) }
 {
     let mut all = String::from_str(alloc, left)?;
@@ -45,7 +45,7 @@ fn sum(
     ensures { AnswersBy slot_of result (Ok (plus_slot (kind_of dtype.now) (slot_of_ref left.entry) (slot_of_ref right.entry))) }
 {
     match (left, right) {
-        (Some(ValueRef::Text(s)), Some(ValueRef::Text(t))) => Ok(Some(appended(alloc, s, t)?)),
+        (Some(ValueRef::Text(s)), Some(ValueRef::Text(t))) => Ok(Some(append_texts(alloc, s, t)?)),
         _ => Ok(arithmetic(dtype, Operator::Plus, left, right)),
     }
 }
@@ -95,6 +95,6 @@ pub fn operate(
         Operator::And | Operator::Or | Operator::Xor => Ok(logic(dtype, op, left, right)),
         Operator::LogicalAnd => Ok(both(truth_of(left), truth_of(right))),
         Operator::LogicalOr => Ok(either(truth_of(left), truth_of(right))),
-        _ => Ok(compared(op, left, right)),
+        _ => Ok(compare_slots(op, left, right)),
     }
 }

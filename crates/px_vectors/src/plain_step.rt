@@ -19,7 +19,7 @@ ghost use Rattle.px_vectors.specs.PlainStep.{IsPart, step_by, tree_of};
 
 use crate::plain::plain_parts;
 use px_column::{
-    Column, ComputeWhy, DataType, InvalidWhy, Name, Px, PxError, Value, sum_type, wrapped_sum,
+    Column, ComputeWhy, DataType, InvalidWhy, Name, Px, PxError, Value, sum_type, wrap_sum,
 };
 use px_frame::DataFrame;
 use std::alloc::Global;
@@ -157,7 +157,7 @@ fn sum_of(alloc: Global, column: &Column) -> Px<Option<Value>>
         return Ok(None);
     };
     let rows = all_rows(alloc, column.len())?;
-    Ok(Some(wrapped_sum(&dtype, column.total_at(&rows))))
+    Ok(Some(wrap_sum(&dtype, column.total_at(&rows))))
 }
 
 /// An aggregation's value on a frame, and a null where it has none.

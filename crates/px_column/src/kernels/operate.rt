@@ -38,7 +38,7 @@ fn operated_rows(
 }
 
 /// What an operator makes of two columns.
-fn operated(alloc: Global, left: &Column, right: &Column, op: Operator) -> Px<Column>
+fn operate_columns(alloc: Global, left: &Column, right: &Column, op: Operator) -> Px<Column>
     ensures { Answers result (operated_column op left.now right.now) }
 {
     let dtype = operator_type(op, left.dtype().try_clone(alloc)?, right.dtype())?;
@@ -65,7 +65,7 @@ impl Column {
         ensures ticks { kernels.new ≡ kernels.old + 1 }
     {
         kernels.tick();
-        operated(alloc, left, right, op)
+        operate_columns(alloc, left, right, op)
     }
 
     /// Whether the values of two columns compare so, row by row (polars `ChunkCompareEq` and
@@ -76,7 +76,7 @@ impl Column {
         requires { is_comparison op ≡ true }
         ensures { Answers result (operated_column op left.now right.now) }
     {
-        operated(alloc, left, right, op)
+        operate_columns(alloc, left, right, op)
     }
 
     /// And of two columns: of truths, where false decides and else a null leaves it open (polars
@@ -85,7 +85,7 @@ impl Column {
     pub fn kleene_and(alloc: Global, left: &Column, right: &Column) -> Px<Column>
         ensures { Answers result (operated_column And left.now right.now) }
     {
-        operated(alloc, left, right, Operator::And)
+        operate_columns(alloc, left, right, Operator::And)
     }
 
     /// Or of two columns: of truths, where true decides and else a null leaves it open (polars
@@ -94,7 +94,7 @@ impl Column {
     pub fn kleene_or(alloc: Global, left: &Column, right: &Column) -> Px<Column>
         ensures { Answers result (operated_column Or left.now right.now) }
     {
-        operated(alloc, left, right, Operator::Or)
+        operate_columns(alloc, left, right, Operator::Or)
     }
 
     /// Whether exactly one of two truths is true, row by row (polars `BooleanChunked` `^`); null where
@@ -102,7 +102,7 @@ impl Column {
     pub fn xor(alloc: Global, left: &Column, right: &Column) -> Px<Column>
         ensures { Answers result (operated_column Xor left.now right.now) }
     {
-        operated(alloc, left, right, Operator::Xor)
+        operate_columns(alloc, left, right, Operator::Xor)
     }
 
     /// Arithmetic on two columns of integers of one type, row by row (polars `NumOpsDispatch`): it wraps
@@ -116,7 +116,7 @@ impl Column {
         if !is_integer(left.dtype()) {
             return Err(PxError::InvalidOperation(InvalidWhy::Types));
         }
-        operated(alloc, left, right, op)
+        operate_columns(alloc, left, right, op)
     }
 
     /// Each text of the left column followed by that of the right one (polars `StringChunked` `+`);
@@ -125,7 +125,7 @@ impl Column {
         ensures { Answers result (appended_column left.now right.now) }
     {
         match left.dtype() {
-            DataType::String => operated(alloc, left, right, Operator::Plus),
+            DataType::String => operate_columns(alloc, left, right, Operator::Plus),
             _ => Err(PxError::InvalidOperation(InvalidWhy::Types)),
         }
     }

@@ -10,7 +10,7 @@ use super::number::number_in;
 use px_value::{DataType, Operator, Value, ValueRef};
 
 /// The bits of both, of one of the two, or of exactly one.
-fn combined(dtype: &DataType, op: Operator, x: i128, y: i128) -> Option<Value>
+fn combine_bits(dtype: &DataType, op: Operator, x: i128, y: i128) -> Option<Value>
     requires op { is_bitwise op ≡ true }
     requires kind { is_boolean_kind (kind_of dtype.now) ≡ false }
     ensures { slot_of result ≡ operated_numbers (kind_of dtype.now) op x y }
@@ -34,7 +34,7 @@ pub(crate) fn bit_by_bit(
     ensures { slot_of result ≡ of_numbers (operated_numbers (kind_of dtype.now) op) (slot_of_ref left.entry) (slot_of_ref right.entry) }
 {
     match (left, right) {
-        (Some(ValueRef::Int(x)), Some(ValueRef::Int(y))) => combined(dtype, op, x, y),
+        (Some(ValueRef::Int(x)), Some(ValueRef::Int(y))) => combine_bits(dtype, op, x, y),
         _ => None,
     }
 }

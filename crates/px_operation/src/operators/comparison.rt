@@ -25,7 +25,7 @@ fn holds(op: Operator, left: ValueRef<'_>, right: ValueRef<'_>) -> bool
 
 /// What a comparison says of two slots: nothing where one is a null, but for the two that take a null
 /// for the same as a null.
-pub(crate) fn compared(
+pub(crate) fn compare_slots(
     op: Operator,
     left: Option<ValueRef<'_>>,
     right: Option<ValueRef<'_>>,

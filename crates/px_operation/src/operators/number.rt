@@ -8,7 +8,7 @@ ghost use Rattle.px_value.specs.View.{slot_of};
 ghost use Rattle.px_operation.specs.Operate.{is_arithmetic, is_division, operated_numbers, IsWord};
 ghost use Rattle.px_operation.specs.Operator.{floor_div, floor_rem, number_in, of_numbers};
 
-use crate::wrap::wrapped;
+use crate::wrapping::wrap;
 use px_value::{DataType, Operator, Value, ValueRef};
 
 /// The quotient toward minus infinity, with both signs turned for a negative divisor.
@@ -53,11 +53,11 @@ fn quotient(x: i128, y: i128) -> i128
 pub(crate) fn number_in(dtype: &DataType, z: i128) -> Option<Value>
     ensures { slot_of result ≡ number_in (kind_of dtype.now) z }
 {
-    Some(Value::Int(wrapped(dtype, z)))
+    Some(Value::Int(wrap(dtype, z)))
 }
 
 /// A quotient or what it leaves; nothing for a divisor of zero.
-fn divided(dtype: &DataType, op: Operator, x: i128, y: i128) -> Option<Value>
+fn divide(dtype: &DataType, op: Operator, x: i128, y: i128) -> Option<Value>
     requires op { is_division op ≡ true }
     requires left { IsWord x }
     requires right { IsWord y }
@@ -75,7 +75,7 @@ fn divided(dtype: &DataType, op: Operator, x: i128, y: i128) -> Option<Value>
 
 /// What arithmetic makes of two integers of a type. It is done in 128 bits; what is lost there of a
 /// product is lost in the type as well.
-fn calculated(dtype: &DataType, op: Operator, x: i128, y: i128) -> Option<Value>
+fn calculate(dtype: &DataType, op: Operator, x: i128, y: i128) -> Option<Value>
     requires op { is_arithmetic op ≡ true }
     requires left { fits (kind_of dtype.now) (integer x) ≡ true }
     requires right { fits (kind_of dtype.now) (integer y) ≡ true }
@@ -85,7 +85,7 @@ fn calculated(dtype: &DataType, op: Operator, x: i128, y: i128) -> Option<Value>
         Operator::Plus => number_in(dtype, x + y),
         Operator::Minus => number_in(dtype, x - y),
         Operator::Multiply => number_in(dtype, x.wrapping_mul(y)),
-        _ => divided(dtype, op, x, y),
+        _ => divide(dtype, op, x, y),
     }
 }
 
@@ -102,7 +102,7 @@ pub(crate) fn arithmetic(
     ensures { slot_of result ≡ of_numbers (operated_numbers (kind_of dtype.now) op) (slot_of_ref left.entry) (slot_of_ref right.entry) }
 {
     match (left, right) {
-        (Some(ValueRef::Int(x)), Some(ValueRef::Int(y))) => calculated(dtype, op, x, y),
+        (Some(ValueRef::Int(x)), Some(ValueRef::Int(y))) => calculate(dtype, op, x, y),
         _ => None,
     }
 }

@@ -25,5 +25,5 @@ returns-clause-sum c =
     let rows = c.deref.ensures.value ∙ all ∙ ap (range_with_len 0) c.len.ensures in
     let whole : c.total_at.result ≡ total xs = c.total_at.ensures ∙ ap (λ ns. total (slots_at xs ns)) rows ∙ ap total (all_slots xs) in
     let same : cast_signed w128 (cast_unsigned w128 c.total_at.result) ≡ c.total_at.result = omega (arith, ints) in
-    let value = c.wrapped_sum.ensures.value ∙ ap (λ (z : ℤ). integer (wrapped k z)) (same ∙ whole) in
-    ap Ok (sum_found xs (sum_kind c.args.column.now.kind) k (datum_of c.wrapped_sum.result) (c.in-Some.ensures ∙ ap sum_kind c.dtype.ensures) value)
+    let value = c.wrap_sum.ensures.value ∙ ap (λ (z : ℤ). integer (wrapped k z)) (same ∙ whole) in
+    ap Ok (sum_found xs (sum_kind c.args.column.now.kind) k (datum_of c.wrap_sum.result) (c.in-Some.ensures ∙ ap sum_kind c.dtype.ensures) value)

@@ -3,7 +3,7 @@ use Rattle.px_value.specs.Datum.{integer}
 use Rattle.px_value.specs.KindView.{kind_of}
 use Rattle.px_operation.proofs.OperatorLaws.{integer_kind}
 use Rattle.px_operation.proofs.Numbers.{product_is}
-use Rattle.px_operation.proofs.operators.number.calculated.Goals as goal
+use Rattle.px_operation.proofs.operators.number.calculate.Goals as goal
 
 pub returns-in-Multiply : goal.returns-in-Multiply
 returns-in-Multiply c =

@@ -6,7 +6,7 @@ ghost use Rattle.px_operation.specs.Wrap.{low_bits, wrapped_in};
 use px_value::DataType;
 
 /// What is left of a number in the bits of an integer type; the number itself for every other type.
-pub fn wrapped(dtype: &DataType, z: i128) -> i128
+pub fn wrap(dtype: &DataType, z: i128) -> i128
     ensures { result ≡ wrapped_in (kind_of dtype.now) z }
 {
     match dtype {
