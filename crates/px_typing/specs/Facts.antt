@@ -136,7 +136,7 @@ abbrev pub is_first_unit : List Facts → Bool
 is_first_unit [] = false
 is_first_unit (a ∷ inputs) = a.unit
 
--- the only_input one
+-- the only one
 abbrev pub only_input : List Facts → Result Facts PxError
 only_input (a ∷ []) = Ok a
 only_input _ = Err (InvalidOperation Types)
