@@ -99,7 +99,7 @@ fn infer_compared(count: usize, is_unit: bool, inputs: &[Typed]) -> Px<Typed>
     })
 }
 
-/// The only_input one, or `Types`.
+/// The only input, or `Types`.
 fn only_input(inputs: Vec<Typed>) -> Px<Typed>
     ensures { AnswersBy facts_of result (only_input (all_facts_of inputs.items)) }
 {
