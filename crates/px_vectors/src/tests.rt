@@ -3,7 +3,7 @@ ghost use Rattle.std.specs.Prelude.{◌≡◌, ◌<◌};
 
 use crate::plain::plain_parts;
 use crate::plain_step::{Aggregation, plain_group_step};
-use px_column::{Column, DataType, Name, Px, Steps, Value, ValueRef};
+use px_column::{Column, DataType, Name, Px, PxError, Steps, Value, ValueRef};
 use px_frame::{DataFrame, GroupPositions, group_by};
 use px_steps::error_line;
 use std::alloc::Global;
@@ -12,6 +12,7 @@ use std::sync::ledger::{Blank, Ledger};
 use std::test::Fail;
 
 mod generated;
+mod runs;
 mod steps;
 mod tables;
 

@@ -1,0 +1,108 @@
+//! Columns: their rows, copies of them, and columns of one value.
+
+use crate::told::{column, told};
+use px_column::{Column, DataType, Name, Px, PxError, Value, ValueRef};
+use std::alloc::Global;
+use std::test::Fail;
+
+fn three_rows(alloc: Global) -> Px<Column> {
+    column(alloc, "Int64", "[4,5,6]")
+}
+
+fn lent(column: &Column) -> Option<ValueRef<'_>> {
+    if column.len() != 3 {
+        return None;
+    }
+    column.get(1)
+}
+
+// The number that stands in the middle, lent and copied.
+fn middle(alloc: Global) -> Px<(i128, i128)> {
+    let column = three_rows(alloc)?;
+    let Some(value) = lent(&column) else {
+        return Err(PxError::OutOfBounds);
+    };
+    match (value, value.to_value(alloc)?) {
+        (ValueRef::Int(lent), Value::Int(copied)) => Ok((lent, copied)),
+        _ => Err(PxError::OutOfBounds),
+    }
+}
+
+fn repeated(alloc: Global) -> Px<Name> {
+    let column = three_rows(alloc)?;
+    if column.len() != 3 {
+        return Err(PxError::OutOfBounds);
+    }
+    told(alloc, column.new_from_index(alloc, 1, 2))
+}
+
+fn cloned(alloc: Global) -> Px<Name> {
+    let column = three_rows(alloc)?;
+    told(alloc, column.try_clone(alloc))
+}
+
+#[test]
+fn a_row_is_lent_and_copied(rt: HostRuntime) -> Result<(), Fail> {
+    let alloc = rt.alloc();
+    assert_eq!(rt; middle(alloc)?, (5, 5));
+    assert_eq!(rt;
+        repeated(alloc)?.as_str(),
+        "[\"x\"]\n[\"Int64\"]\n[5]\n[5]\n"
+    );
+    assert_eq!(rt;
+        cloned(alloc)?.as_str(),
+        "[\"x\"]\n[\"Int64\"]\n[4]\n[5]\n[6]\n"
+    );
+    Ok(())
+}
+
+fn fives(alloc: Global) -> Px<Column> {
+    let name = Name::new(alloc, "x")?;
+    Column::full(alloc, name, DataType::Int64, Value::Int(5), 3)
+}
+
+fn nulls(alloc: Global) -> Px<Column> {
+    Column::full_null(alloc, Name::new(alloc, "x")?, 2, DataType::Int64)
+}
+
+fn small(alloc: Global) -> Px<Column> {
+    let rows = vec![in alloc; Some(Value::Int(1)), Some(Value::Int(200))]?;
+    Column::from_values(alloc, Name::new(alloc, "x")?, DataType::Int8, rows)
+}
+
+#[test]
+fn a_value_stands_at_each_row_and_fits(rt: HostRuntime) -> Result<(), Fail> {
+    let alloc = rt.alloc();
+    let text = told(alloc, fives(alloc))?;
+    assert_eq!(rt; text.as_str(), "[\"x\"]\n[\"Int64\"]\n[5]\n[5]\n[5]\n");
+    let text = told(alloc, nulls(alloc))?;
+    assert_eq!(rt; text.as_str(), "[\"x\"]\n[\"Int64\"]\n[null]\n[null]\n");
+    let text = told(alloc, small(alloc))?;
+    assert_eq!(rt; text.as_str(), "error: InvalidOperation(Types)\n");
+    Ok(())
+}
+
+// These rows of three, under the name `y`.
+fn taken(alloc: Global, rows: &[Option<u32>]) -> Px<Name> {
+    if rows.len() > 2 {
+        return Err(PxError::OutOfBounds);
+    }
+    let name = Name::new(alloc, "y")?;
+    let column = three_rows(alloc)?.with_name(name);
+    told(alloc, column.take(alloc, rows))
+}
+
+fn null_count(alloc: Global) -> Px<u32> {
+    let column = column(alloc, "Int64", "[4,null,null]")?;
+    Ok(column.null_count())
+}
+
+#[test]
+fn rows_are_taken_under_another_name(rt: HostRuntime) -> Result<(), Fail> {
+    let alloc = rt.alloc();
+    let text = taken(alloc, &[Some(2), None])?;
+    assert_eq!(rt; text.as_str(), "[\"y\"]\n[\"Int64\"]\n[6]\n[null]\n");
+    assert_eq!(rt; taken(alloc, &[Some(3)])?.as_str(), "error: OutOfBounds\n");
+    assert_eq!(rt; null_count(alloc)?, 2);
+    Ok(())
+}

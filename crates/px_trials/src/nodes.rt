@@ -1,0 +1,199 @@
+//! Nodes that are evaluated on a frame, or without one.
+ghost use Rattle.std.specs.Prelude.{◌≡◌, ◌<◌};
+
+use crate::told::{four_rows, frame, told};
+use indexmap::IndexSet;
+use px_column::{Column, DataType, GroupByMethod, Name, Px, PxError, Steps};
+use px_expr::{
+    AggregationExpr, AggregationType, ColumnExpr, ExpressionConversionState, LiteralExpr, PhysExpr,
+    PhysicalExpr, create_physical_expr, is_built,
+};
+use px_frame::{DataFrame, Field, Schema, SchemaRef};
+use px_plan::{Arena, Context, Expr, ExprIR, LiteralValue, fits_arena, to_arena};
+use px_window::ExecutionState;
+use std::alloc::Global;
+use std::marker::Brand;
+use std::rc::Rc;
+use std::sync::ledger::{Blank, Ledger};
+use std::test::Fail;
+
+fn literal(alloc: Global, value: LiteralValue) -> Px<PhysExpr> {
+    let expr = Expr::Literal(value.try_clone(alloc)?);
+    Ok(PhysExpr::Literal(LiteralExpr::new(value, expr)))
+}
+
+// The literal 5 under so many aliases `t`.
+fn five_under(alloc: Global, aliases: u32) -> Px<Expr> {
+    let mut expr = Expr::Literal(LiteralValue::Int64(5));
+    for _ in 0..aliases {
+        expr = Expr::Alias(Rc::new(alloc, expr)?, Name::new(alloc, "t")?);
+    }
+    Ok(expr)
+}
+
+// The node of an expression that reads no column.
+fn planned(alloc: Global, expr: &Expr) -> Px<PhysExpr> {
+    let mut arena = Arena::new(alloc)?;
+    if !is_built(expr) || !fits_arena(expr, &arena) {
+        return Err(PxError::OutOfBounds);
+    }
+    let expr = ExprIR::new(to_arena(alloc, expr, &mut arena)?, None);
+    let schema = Rc::new(alloc, Schema::new(alloc)?)?;
+    let mut noted = ExpressionConversionState::new(0);
+    create_physical_expr(alloc, &expr, Context::Default, &arena, &schema, &mut noted)
+}
+
+// The value without a frame, where it is there.
+fn inline(alloc: Global, node: &PhysExpr) -> Px<Name> {
+    match node.evaluate_inline(alloc)? {
+        Some(column) => told(alloc, Ok(column)),
+        None => Name::new(alloc, "none"),
+    }
+}
+
+fn inline_literal(alloc: Global, value: LiteralValue) -> Px<Name> {
+    let node = literal(alloc, value)?;
+    inline(alloc, &node)
+}
+
+fn inline_under(alloc: Global, aliases: u32) -> Px<Name> {
+    let expr = five_under(alloc, aliases)?;
+    let node = planned(alloc, &expr)?;
+    inline(alloc, &node)
+}
+
+const RANGE: LiteralValue = LiteralValue::Range {
+    low: 0,
+    high: 3,
+    dtype: DataType::Int64,
+};
+
+#[test]
+fn a_literal_has_its_value_without_a_frame(rt: HostRuntime) -> Result<(), Fail> {
+    let alloc = rt.alloc();
+    let text = inline_literal(alloc, LiteralValue::Int64(5))?;
+    assert_eq!(rt; text.as_str(), "[\"literal\"]\n[\"Int64\"]\n[5]\n");
+    assert_eq!(rt; inline_literal(alloc, RANGE)?.as_str(), "none");
+    assert_eq!(rt;
+        inline_under(alloc, 4)?.as_str(),
+        "[\"t\"]\n[\"Int64\"]\n[5]\n"
+    );
+    assert_eq!(rt; inline_under(alloc, 5)?.as_str(), "none");
+    Ok(())
+}
+
+fn counted<L: Ledger, M: Ledger>(
+    alloc: Global,
+    node: &PhysExpr,
+    df: &DataFrame,
+    kernels: Blank,
+    groupings: Blank,
+) -> Px<Column>
+    requires kernels_name { kernels.name ≡ L.name }
+    requires kernels_parts { kernels.parts ≡ L.parts }
+    requires kernels_some { 0 < kernels.parts }
+    requires groupings_name { groupings.name ≡ M.name }
+    requires groupings_parts { groupings.parts ≡ M.parts }
+    requires groupings_some { 0 < groupings.parts }
+{
+    let mut state = ExecutionState::new(alloc, false)?;
+    let mut kernels = Steps::<L>::new(kernels);
+    let mut groupings = Steps::<M>::new(groupings);
+    node.evaluate(alloc, df, &mut state, &mut kernels, &mut groupings)
+}
+
+fn value(alloc: Global, node: &PhysExpr, df: &DataFrame) -> Px<Name> {
+    let value = counted::<Brand, Brand>(alloc, node, df, Blank::new(1), Blank::new(1));
+    told(alloc, value)
+}
+
+fn column(alloc: Global, name: &str, schema: SchemaRef) -> Px<PhysExpr> {
+    let expr = Expr::Column(Name::new(alloc, name)?);
+    let node = ColumnExpr::new(Name::new(alloc, name)?, expr, schema);
+    Ok(PhysExpr::Column(node))
+}
+
+// What a node of a reserved name, over the schema of one column, finds on a frame.
+fn reserved_on(alloc: Global, df: &DataFrame) -> Px<Name> {
+    let one = frame(alloc, r#"[{"name":"k","type":"Int64","values":[]}]"#)?;
+    let schema = Rc::new(alloc, one.schema(alloc)?)?;
+    let node = column(alloc, "__POLARS_CSER_1", schema)?;
+    value(alloc, &node, df)
+}
+
+// A frame of that name at place 1.
+const BEHIND: &str =
+    r#"[{"name":"k","type":"Int64","values":[7,9]},{"name":"__POLARS_CSER_1","type":"Int64","values":[3,4]}]"#;
+
+#[test]
+fn a_reserved_name_is_found_behind_the_schema(rt: HostRuntime) -> Result<(), Fail> {
+    let alloc = rt.alloc();
+    let text = reserved_on(alloc, &frame(alloc, BEHIND)?)?;
+    assert_eq!(rt;
+        text.as_str(),
+        "[\"__POLARS_CSER_1\"]\n[\"Int64\"]\n[3]\n[4]\n"
+    );
+    let text = reserved_on(alloc, &four_rows(alloc)?)?;
+    assert_eq!(rt;
+        text.as_str(),
+        "error: ColumnNotFound(\"__POLARS_CSER_1\")\n"
+    );
+    Ok(())
+}
+
+// The sum of `x`, over a schema.
+fn sum(alloc: Global, schema: SchemaRef) -> Px<PhysExpr> {
+    let input = Box::new(alloc, column(alloc, "x", schema)?)?;
+    let groupby = GroupByMethod::Sum;
+    let node = AggregationExpr::new(input, AggregationType { groupby }, None);
+    Ok(PhysExpr::Aggregation(node))
+}
+
+fn schema(alloc: Global) -> Px<SchemaRef> {
+    let frame = four_rows(alloc)?;
+    Ok(Rc::new(alloc, frame.schema(alloc)?)?)
+}
+
+fn value_of_sum(alloc: Global) -> Px<Name> {
+    let frame = four_rows(alloc)?;
+    let node = sum(alloc, schema(alloc)?)?;
+    value(alloc, &node, &frame)
+}
+
+fn field_of_sum(alloc: Global) -> Px<Field> {
+    let schema = schema(alloc)?;
+    let node = sum(alloc, schema.clone()?)?;
+    node.to_field(alloc, &schema)
+}
+
+fn live_of_sum(alloc: Global) -> Px<IndexSet<Name>> {
+    let node = sum(alloc, schema(alloc)?)?;
+    let mut live = IndexSet::new(alloc);
+    node.collect_live_columns(alloc, &mut live)?;
+    Ok(live)
+}
+
+// The place of the column `x` among the live ones.
+fn place_of_live(alloc: Global) -> Px<Option<usize>> {
+    let name = Name::new(alloc, "x")?;
+    let live = live_of_sum(alloc)?;
+    Ok(live.get_index_of(&name))
+}
+
+fn sum_is_scalar(alloc: Global) -> Px<bool> {
+    let node = sum(alloc, schema(alloc)?)?;
+    Ok(node.is_scalar() && !node.is_literal() && node.is_partitioned_aggregator())
+}
+
+#[test]
+fn a_sum_has_a_value_a_field_and_a_live_column(rt: HostRuntime) -> Result<(), Fail> {
+    let alloc = rt.alloc();
+    assert_eq!(rt;
+        value_of_sum(alloc)?.as_str(),
+        "[\"x\"]\n[\"Int64\"]\n[6]\n"
+    );
+    assert_eq!(rt; field_of_sum(alloc)?.name.as_str(), "x");
+    assert_eq!(rt; place_of_live(alloc)?, Some(0));
+    assert!(rt; sum_is_scalar(alloc)?);
+    Ok(())
+}
