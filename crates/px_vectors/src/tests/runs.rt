@@ -5,6 +5,7 @@ ghost use Rattle.px_tree.specs.Built.{is_built};
 ghost use Rattle.px_tree.specs.Step.{step_view};
 
 use super::*;
+use crate::library_call::totals;
 use px_ends::{LIMIT, read_all, write_all};
 use px_steps::run::run;
 use px_steps::{
@@ -167,6 +168,38 @@ fn no_step_gives_an_equal_frame(rt: HostRuntime) -> Result<(), Fail> {
         text.as_slice(),
         b"[\"k\",\"x\"]\n[\"Int64\",\"Int64\"]\n[7,0]\n[9,1]\n[7,2]\n[7,3]\n".as_slice()
     );
+    Ok(())
+}
+
+fn counted_totals<L: Ledger, M: Ledger>(
+    alloc: Global,
+    frame: &DataFrame,
+    kernels: Blank,
+    groupings: Blank,
+) -> Px<DataFrame>
+    requires kernels_name { kernels.name ≡ L.name }
+    requires kernels_parts { kernels.parts ≡ L.parts }
+    requires kernels_some { 0 < kernels.parts }
+    requires groupings_name { groupings.name ≡ M.name }
+    requires groupings_parts { groupings.parts ≡ M.parts }
+    requires groupings_some { 0 < groupings.parts }
+{
+    let mut kernels = Steps::<L>::new(kernels);
+    let mut groupings = Steps::<M>::new(groupings);
+    totals(alloc, frame, &mut kernels, &mut groupings)
+}
+
+fn totals_of(alloc: Global, frame: &DataFrame) -> Px<DataFrame> {
+    counted_totals::<Brand, Brand>(alloc, frame, Blank::new(1), Blank::new(1))
+}
+
+#[test]
+fn a_library_calls_the_steps(rt: HostRuntime) -> Result<(), Fail> {
+    let alloc = rt.alloc();
+    let document = read_document(alloc, DOCUMENT.as_bytes()).ok();
+    let document = document.ok_or("the text is a document")?;
+    let text = frame_text(alloc, &totals_of(alloc, &document.frame)?)?;
+    assert_eq!(rt; text.as_slice(), TEXT.as_bytes());
     Ok(())
 }
 
