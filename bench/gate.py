@@ -66,9 +66,14 @@ def main(folder):
     begin = time.time()
     gate = subprocess.Popen(["rt", "ci"], cwd=folder, stdout=sys.stderr)
     seen = {}
-    while gate.poll() is None:
-        see(gate.pid, seen)
-        time.sleep(0.5)
+    try:
+        while gate.poll() is None:
+            see(gate.pid, seen)
+            time.sleep(0.5)
+    except KeyboardInterrupt:
+        print("The gate was interrupted: what it took until then.\n")
+        gate.terminate()
+        gate.wait()
     used = os.times()
     spent = collections.defaultdict(float)
     for work, seconds in seen.values():
