@@ -1,7 +1,7 @@
 //! Worked examples of what frames, steps and texts mean, and plain programs that do what the definitions say.
 #![tactic(auto)]
 
-mod cost_examples;
+mod costs;
 mod examples;
 mod form_examples;
 mod library_call;
@@ -10,7 +10,7 @@ mod plain;
 mod plain_step;
 mod worked;
 
-pub use cost_examples::cost_examples;
+pub use costs::cost_examples;
 pub use examples::{
     fault_examples, group_examples, refusal_examples, select_examples, window_examples,
 };
