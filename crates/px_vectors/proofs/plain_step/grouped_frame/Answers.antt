@@ -8,5 +8,5 @@ pub returns : goal.returns
 returns c =
     let keys = c.in_ok-by.ensures in
     let columns = c.in_ok-grouped_columns.ensures in
-    step_answer c.args.frame.now (map column c.args.keys.now) (map tree_of c.args.aggs.now) c.deref.result.now c.in_ok-grouped_columns.field-0.items c.new.result c.new.ensures
+    step_answer c.args.frame.now (map column c.args.keys.now) (map tree_of c.args.aggs.now) c.deref.result.now c.in_ok-grouped_columns.field-0.items c.new.result c.new.ensures.answer
     (some_key c.args.keys.now (sym c.is_empty.ensures ∙ c.if-is_empty.false)) (keys.1 ∙ ap Some (sym c.deref.ensures.value)) keys.0 columns.1 columns.0
