@@ -3,6 +3,8 @@
 #![tactic(auto)]
 
 #[cfg(test)]
+mod arrangement;
+#[cfg(test)]
 mod columns;
 #[cfg(test)]
 mod frames;
@@ -13,12 +15,18 @@ mod kernels;
 #[cfg(test)]
 mod nodes;
 #[cfg(test)]
+mod orders;
+#[cfg(test)]
 mod planner;
+#[cfg(test)]
+mod slices;
 #[cfg(test)]
 mod state;
 #[cfg(test)]
 mod told;
 #[cfg(test)]
 mod trees;
+#[cfg(test)]
+mod truths;
 #[cfg(test)]
 mod values;
