@@ -1,0 +1,60 @@
+//! Columns and groups that are lent, or owned.
+ghost use Rattle.std.specs.Prelude.{◌≡◌, Ok};
+ghost use Rattle.px_column.specs.Prelude.{Answers};
+ghost use Rattle.px_context.specs.LentView.{series_of, groups_in};
+
+use px_column::{Column, Px};
+use px_frame::GroupPositions;
+use std::alloc::Global;
+
+/// A column that is lent, or owned.
+#[derive(Drop)]
+pub enum ColRef<'a> {
+    /// A column that another owns.
+    Borrowed(&'a Column),
+    /// A column of its own.
+    Owned(Column),
+}
+
+/// Groups that are lent, or owned (polars `Cow<'a, GroupPositions>`).
+#[derive(Drop)]
+pub enum GroupsRef<'a> {
+    /// Groups that another owns.
+    Borrowed(&'a GroupPositions),
+    /// Groups of its own.
+    Owned(GroupPositions),
+}
+
+impl ColRef<'_> {
+    /// The column.
+    pub fn get(&self) -> &Column
+        ensures { result.now ≡ series_of self.now }
+    {
+        match self {
+            ColRef::Borrowed(column) => column,
+            ColRef::Owned(column) => column,
+        }
+    }
+
+    /// The column, or an equal one where it is lent.
+    pub fn into_owned(self, alloc: Global) -> Px<Column>
+        ensures { Answers result (Ok (series_of self.entry)) }
+    {
+        match self {
+            ColRef::Borrowed(column) => column.try_clone(alloc),
+            ColRef::Owned(column) => Ok(column),
+        }
+    }
+}
+
+impl GroupsRef<'_> {
+    /// The groups.
+    pub fn get(&self) -> &GroupPositions
+        ensures { result.now ≡ groups_in self.now }
+    {
+        match self {
+            GroupsRef::Borrowed(groups) => groups,
+            GroupsRef::Owned(groups) => groups,
+        }
+    }
+}
