@@ -15,8 +15,8 @@ use Rattle.px_frame.specs.Frame.{slots_at}
 use Rattle.px_frame.specs.Groups.{Groups, Group, lengths_of}
 use Rattle.px_frame.specs.Reduced.{listed_by, reduced_at}
 use Rattle.px_value.specs.declared.method.GroupByMethod.TheVariants.{Implode}
-use Rattle.px_context.specs.Context.{Context, IsContext, AreLists, HasShape, cells_in, cells_of, is_list_slot, item_kind, items_at, kind_in}
-use Rattle.px_context.specs.Changes.{all_rows, first_repeated, laid_kind, laid_kind_in}
+use Rattle.px_context.specs.Context.{AreLists, cells_in, is_list_slot, item_kind, items_at}
+use Rattle.px_context.specs.Changes.{all_rows, first_repeated}
 use Rattle.px_context.specs.declared.agg_state.Layout.{Layout}
 use Rattle.px_context.specs.declared.agg_state.Layout.TheVariants.{Lists, Scalars, Flat, Rows, Unit as Single}
 
@@ -43,6 +43,10 @@ listed_made s r g e = unless_made (nat_lt (sum (lengths_of g)) (2 ^ 32)) (listed
 -- they are of a type of lists
 pub kind_listed : (s r : Series) (g : Groups) → listed_by s g ≡ Ok r → r.kind ≡ lists s.kind
 kind_listed s r g e = ap (λ (q : Series). q.kind) (listed_made s r g e)
+
+-- under the column's name
+pub name_listed : (s r : Series) (g : Groups) → listed_by s g ≡ Ok r → r.name ≡ s.name
+name_listed s r g e = ap (λ (q : Series). q.name) (listed_made s r g e)
 
 -- they are a list for each group
 pub AreLists-listed : (s r : Series) (g : Groups) → listed_by s g ≡ Ok r → AreLists r g
@@ -89,14 +93,6 @@ values_listed s g h = sym (list_values s.slots h.present)
 pub values_scalar : (s : Series) (g : Groups) → s.slots ≡ map value_of_cell (cells_in Scalars s g)
 values_scalar s g = sym (unit_values s.slots)
 
--- and so does the column of a context that is laid out so
-pub laid_lists : (c : Context) → IsContext c → Lists ≡ c.layout → c.values.slots ≡ map value_of_cell (cells_of c)
-laid_lists c ok e =
-    values_listed c.values c.groups (subst (λ (l : Layout). HasShape l c.values c.groups) (sym e) ok.shape) ∙ ap (λ (l : Layout). map value_of_cell (cells_in l c.values c.groups)) e
-
-pub laid_scalars : (c : Context) → Scalars ≡ c.layout → c.values.slots ≡ map value_of_cell (cells_of c)
-laid_scalars c e = values_scalar c.values c.groups ∙ ap (λ (l : Layout). map value_of_cell (cells_in l c.values c.groups)) e
-
 -- the group of all rows of a height
 abbrev pub whole_group : ℕ → Group
 whole_group n = record { first = 0; rows = range_with_len 0 n }
@@ -130,9 +126,3 @@ cells_whole s r g e = cells_listed s r (all_rows (length g.groups) (length s.slo
 pub kind_lists : (k : Kind) → is_list_kind k ≡ true → k ≡ lists (item_kind k)
 kind_lists (lists k) h = refl
 kind_lists _ h = cc
-
--- the type of a context's lists
-pub laid_kind_lists : (c : Context) → IsContext c → Lists ≡ c.layout → c.values.kind ≡ laid_kind c
-laid_kind_lists c ok e =
-    let are : AreLists c.values c.groups = subst (λ (l : Layout). HasShape l c.values c.groups) (sym e) ok.shape in
-    kind_lists c.values.kind are.kind ∙ ap (λ (l : Layout). laid_kind_in l (kind_in l c.values.kind)) e

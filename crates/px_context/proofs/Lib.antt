@@ -2,5 +2,7 @@ pub mod Reading
 pub mod Whole
 pub mod Regrouping
 pub mod Aggregating
+pub mod Laying
 pub mod Apart
+pub mod Counting
 pub mod Sameness

@@ -1,5 +1,5 @@
 -- How a context is laid out anew.
-use Rattle.std.specs.Prelude.{◌≡◌, ◌⊎◌, ℕ, List, Some, Result, Ok, length, map, replicate, Bool, true, false}
+use Rattle.std.specs.Prelude.{◌≡◌, ◌⊎◌, ℕ, List, Some, Result, Ok, length, map, replicate, Bool, true, false, if◌then◌else◌}
 use Rattle.std.specs.List.{range_with_len}
 use Rattle.px_column.specs.Prelude.{Kind, lists, Series, slot_at}
 use Rattle.px_column.specs.Repeat.{repeated}
@@ -9,7 +9,7 @@ use Rattle.px_frame.specs.Cell.{count_of}
 use Rattle.px_frame.specs.Consecutive.{consecutive}
 use Rattle.px_frame.specs.Groups.{Groups}
 use Rattle.px_frame.specs.Reduced.{listed_by}
-use Rattle.px_context.specs.Context.{Context, cell_kind, cells_of}
+use Rattle.px_context.specs.Context.{Context, cell_kind, cells_of, has_units}
 use Rattle.px_context.specs.declared.agg_state.Layout.{Layout}
 use Rattle.px_context.specs.declared.agg_state.Layout.TheVariants.{Lists, Scalars, Flat, Rows, Unit as Single}
 use Rattle.px_context.specs.declared.agg_state.UpdateGroups.{UpdateGroups}
@@ -74,15 +74,13 @@ aggregated c = aggregated_in c.layout c
 abbrev pub finalized : Context → Result Series PxError
 finalized c = aggregated c >>= λ d. Ok d.values
 
--- the type of a column with the cells as its values: the type of units, or lists of the type of rows
-abbrev pub laid_kind_in : Layout → Kind → Kind
-laid_kind_in Scalars k = k
-laid_kind_in Single k = k
-laid_kind_in _ k = lists k
-
--- the type of the column of a context with a list or a value for each group
+-- the type of the column of a context with a list or a value for each group: of units that of the cells' values, else of lists of them
 abbrev pub laid_kind : Context → Kind
-laid_kind c = laid_kind_in c.layout (cell_kind c)
+laid_kind c = if has_units c.layout then cell_kind c else lists (cell_kind c)
+
+-- the same name and type of the cells' values, and units where there were units
+abbrev pub KeepsType : Context → Context → Type 0
+KeepsType old new = (new.values.name ≡ old.values.name) × (cell_kind new ≡ cell_kind old) × (has_units new.layout ≡ has_units old.layout)
 
 -- a context is as it was, or as it is with a list or a value for each group
 abbrev pub LaidOrKept : Context → Context → Type 0

@@ -61,6 +61,12 @@ kind_in _ k = k
 abbrev pub cell_kind : Context → Kind
 cell_kind c = kind_in c.layout c.values.kind
 
+-- whether cells that are laid out so are units
+abbrev pub has_units : Layout → Bool
+has_units Scalars = true
+has_units Single = true
+has_units _ = false
+
 -- a list stands at a place
 abbrev pub is_list_slot : Slot → Bool
 is_list_slot (Some (list ds)) = true

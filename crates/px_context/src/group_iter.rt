@@ -100,8 +100,9 @@ pub enum GroupIter<'b> {
 }
 
 impl<'b> Iterator for LitIter<'b> {
-    ghost use Rattle.std.specs.Prelude.{◌≡◌, Some, length};
-    ghost use Rattle.std.specs.Iterator.{YieldsFirst, item_count};
+    ghost use Rattle.std.specs.Prelude.{◌≡◌, IfSome, Some, length};
+    ghost use Rattle.std.specs.Iterator.{UpTo, YieldsFirst, item_count};
+    ghost use Rattle.std.specs.Iterator.SizeHint.{IsWithinCount};
     ghost use Rattle.px_context.specs.IterView.{literal_left};
 
     type Item = GroupPiece<'b>;
@@ -122,7 +123,11 @@ impl<'b> Iterator for LitIter<'b> {
         }
     }
 
-    fn size_hint(&self) -> (usize, Option<usize>) {
+    fn size_hint(&self) -> (usize, Option<usize>)
+        ensures lower { IsWithinCount result.0 (item_count literal_left self.now) }
+        ensures upper { IfSome result.1 (UpTo (item_count literal_left self.now)) }
+        ensures exact { result ≡ (length (literal_left self.now), Some (length (literal_left self.now))) }
+    {
         let len = self.len();
         (len, Some(len))
     }
@@ -135,7 +140,9 @@ impl<'b> ExactSizeIterator for LitIter<'b> {
 }
 
 impl<'b> Iterator for FlatIter<'b> {
-    ghost use Rattle.std.specs.Iterator.{YieldsFirst, item_count};
+    ghost use Rattle.std.specs.Prelude.{◌≡◌, IfSome, Some, length};
+    ghost use Rattle.std.specs.Iterator.{UpTo, YieldsFirst, item_count};
+    ghost use Rattle.std.specs.Iterator.SizeHint.{IsWithinCount};
     ghost use Rattle.px_context.specs.IterView.{scalars_left};
 
     type Item = GroupPiece<'b>;
@@ -153,7 +160,11 @@ impl<'b> Iterator for FlatIter<'b> {
         Some(piece)
     }
 
-    fn size_hint(&self) -> (usize, Option<usize>) {
+    fn size_hint(&self) -> (usize, Option<usize>)
+        ensures lower { IsWithinCount result.0 (item_count scalars_left self.now) }
+        ensures upper { IfSome result.1 (UpTo (item_count scalars_left self.now)) }
+        ensures exact { result ≡ (length (scalars_left self.now), Some (length (scalars_left self.now))) }
+    {
         let len = self.len();
         (len, Some(len))
     }
@@ -166,7 +177,9 @@ impl<'b> ExactSizeIterator for FlatIter<'b> {
 }
 
 impl<'b> Iterator for ListIter<'b> {
-    ghost use Rattle.std.specs.Iterator.{YieldsFirst, item_count};
+    ghost use Rattle.std.specs.Prelude.{◌≡◌, IfSome, Some, length};
+    ghost use Rattle.std.specs.Iterator.{UpTo, YieldsFirst, item_count};
+    ghost use Rattle.std.specs.Iterator.SizeHint.{IsWithinCount};
     ghost use Rattle.px_context.specs.IterView.{lists_left};
 
     type Item = GroupPiece<'b>;
@@ -185,7 +198,11 @@ impl<'b> Iterator for ListIter<'b> {
         Some(piece)
     }
 
-    fn size_hint(&self) -> (usize, Option<usize>) {
+    fn size_hint(&self) -> (usize, Option<usize>)
+        ensures lower { IsWithinCount result.0 (item_count lists_left self.now) }
+        ensures upper { IfSome result.1 (UpTo (item_count lists_left self.now)) }
+        ensures exact { result ≡ (length (lists_left self.now), Some (length (lists_left self.now))) }
+    {
         let len = self.len();
         (len, Some(len))
     }
@@ -198,7 +215,9 @@ impl<'b> ExactSizeIterator for ListIter<'b> {
 }
 
 impl<'b> Iterator for RowsIter<'b> {
-    ghost use Rattle.std.specs.Iterator.{YieldsFirst, item_count};
+    ghost use Rattle.std.specs.Prelude.{◌≡◌, IfSome, Some, length};
+    ghost use Rattle.std.specs.Iterator.{UpTo, YieldsFirst, item_count};
+    ghost use Rattle.std.specs.Iterator.SizeHint.{IsWithinCount};
     ghost use Rattle.px_context.specs.IterView.{rows_left};
 
     type Item = GroupPiece<'b>;
@@ -216,7 +235,11 @@ impl<'b> Iterator for RowsIter<'b> {
         Some(piece)
     }
 
-    fn size_hint(&self) -> (usize, Option<usize>) {
+    fn size_hint(&self) -> (usize, Option<usize>)
+        ensures lower { IsWithinCount result.0 (item_count rows_left self.now) }
+        ensures upper { IfSome result.1 (UpTo (item_count rows_left self.now)) }
+        ensures exact { result ≡ (length (rows_left self.now), Some (length (rows_left self.now))) }
+    {
         let len = self.len();
         (len, Some(len))
     }
@@ -265,7 +288,9 @@ impl<'b> GroupIter<'b> {
 }
 
 impl<'b> Iterator for GroupIter<'b> {
-    ghost use Rattle.std.specs.Iterator.{YieldsFirst, item_count};
+    ghost use Rattle.std.specs.Prelude.{◌≡◌, IfSome, Some, length};
+    ghost use Rattle.std.specs.Iterator.{UpTo, YieldsFirst, item_count};
+    ghost use Rattle.std.specs.Iterator.SizeHint.{IsWithinCount};
     ghost use Rattle.px_context.specs.IterView.{left_of};
 
     type Item = GroupPiece<'b>;
@@ -283,7 +308,11 @@ impl<'b> Iterator for GroupIter<'b> {
         }
     }
 
-    fn size_hint(&self) -> (usize, Option<usize>) {
+    fn size_hint(&self) -> (usize, Option<usize>)
+        ensures lower { IsWithinCount result.0 (item_count left_of self.now) }
+        ensures upper { IfSome result.1 (UpTo (item_count left_of self.now)) }
+        ensures exact { result ≡ (length (left_of self.now), Some (length (left_of self.now))) }
+    {
         let len = self.len();
         (len, Some(len))
     }

@@ -3,8 +3,8 @@ ghost use Rattle.std.specs.Prelude.{◌≡◌, Ok, IfOk, OnErr, OnOk, map, lengt
 ghost use Rattle.px_column.specs.Prelude.{Answers, AnswersBy};
 ghost use Rattle.px_frame.specs.Cell.{value_of_cell};
 ghost use Rattle.px_frame.specs.Reduced.{listed_by};
-ghost use Rattle.px_context.specs.Context.{AreLists, cells_of};
-ghost use Rattle.px_context.specs.Changes.{LaidOrKept, aggregated, all_rows, finalized, laid_kind, with_lists, with_scalars};
+ghost use Rattle.px_context.specs.Context.{AreLists, IsContext, cells_of};
+ghost use Rattle.px_context.specs.Changes.{KeepsType, LaidOrKept, aggregated, all_rows, finalized, laid_kind, with_lists, with_scalars};
 
 use crate::agg_state::{AggState, Layout, UpdateGroups};
 use crate::context::AggregationContext;
@@ -55,15 +55,11 @@ impl<'a> AggregationContext<'a> {
         self.is_untouched = false;
     }
 
-    /// Lays a list or a value out for each group: values as they are kept, a unit at each group, and
-    /// else lists, after which the groups are to be rebuilt. `TooLong` where the lists together have 2^32
-    /// values. The cells stay as they were; after a refusal all does.
-    pub fn aggregate(&mut self, alloc: Global) -> Px<()>
+    /// Lays a list or a value out for each group.
+    fn lay_out(&mut self, alloc: Global) -> Px<()>
         ensures answer { AnswersBy (λ _. self.new) result (aggregated self.old) }
         ensures refused { OnErr result (self.new ≡ self.old) }
-        ensures cells { cells_of self.new ≡ cells_of self.old }
-        ensures values { OnOk result (self.new.values.slots ≡ map value_of_cell (cells_of self.new)) }
-        ensures kind { OnOk result (self.new.values.kind ≡ laid_kind self.old) }
+        ensures context { IsContext self.old }
     {
         match self.layout() {
             Layout::Lists => Ok(()),
@@ -87,6 +83,21 @@ impl<'a> AggregationContext<'a> {
         }
     }
 
+    /// Lays a list or a value out for each group: values as they are kept, a unit at each group, and
+    /// else lists, after which the groups are to be rebuilt. `TooLong` where the lists together have 2^32
+    /// values. The cells stay as they were; after a refusal all does.
+    #[tactic(auto, using(crate::proofs::Laying::laid_type, crate::proofs::Laying::laid_as))]
+    pub fn aggregate(&mut self, alloc: Global) -> Px<()>
+        ensures answer { AnswersBy (λ _. self.new) result (aggregated self.old) }
+        ensures refused { OnErr result (self.new ≡ self.old) }
+        ensures cells { cells_of self.new ≡ cells_of self.old }
+        ensures types { KeepsType self.old self.new }
+        ensures values { OnOk result (self.new.values.slots ≡ map value_of_cell (cells_of self.new)) }
+        ensures kind { OnOk result (self.new.values.kind ≡ laid_kind self.old) }
+    {
+        self.lay_out(alloc)
+    }
+
     /// The column of a list or a value for each group, as `aggregated` lends it, for the caller to keep
     /// (polars `finalize`). `TooLong` where the lists together have 2^32 values. The cells stay as they
     /// were.
@@ -97,6 +108,7 @@ impl<'a> AggregationContext<'a> {
         ensures context { OnOk result (aggregated self.old ≡ Ok self.new) }
         ensures kept { LaidOrKept self.old self.new }
         ensures cells { cells_of self.new ≡ cells_of self.old }
+        ensures types { KeepsType self.old self.new }
     {
         self.aggregate(alloc)?;
         self.get_values().try_clone(alloc)

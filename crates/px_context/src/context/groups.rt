@@ -3,7 +3,7 @@ ghost use Rattle.std.specs.Prelude.{◌≡◌, ◌<◌, ◌^◌, Ok, IsOk, OnErr
 ghost use Rattle.px_column.specs.Prelude.{AnswersBy, datum_of_ref, slot_of_ref};
 ghost use Rattle.px_context.specs.Context.{cells_of, items_at, items_of};
 ghost use Rattle.px_context.specs.Built.{with_other_groups, with_update};
-ghost use Rattle.px_context.specs.Changes.{is_pending, regrouped};
+ghost use Rattle.px_context.specs.Changes.{KeepsType, is_pending, regrouped};
 ghost use Rattle.px_context.specs.declared.agg_state.Layout.TheVariants.{Flat, Lists};
 
 use crate::agg_state::UpdateGroups;
@@ -54,6 +54,7 @@ impl<'a> AggregationContext<'a> {
         ensures answer { AnswersBy (λ _. self.new) result (regrouped self.old) }
         ensures refused { OnErr result (self.new ≡ self.old) }
         ensures cells { cells_of self.new ≡ cells_of self.old }
+        ensures types { KeepsType self.old self.new }
         ensures free { is_pending self.old.update ≡ false → IsOk result }
     {
         if !self.update.is_pending() {

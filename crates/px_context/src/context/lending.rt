@@ -1,8 +1,8 @@
 //! Calls that lay a context out anew and lend from it, and say what it ends as once the loan is over.
-ghost use Rattle.std.specs.Prelude.{◌≡◌, Ok, IsOk, IfOk, OnErr, OnOk, false, map};
+ghost use Rattle.std.specs.Prelude.{◌≡◌, Ok, IsOk, IfOk, OnErr, OnOk, false, length, map};
 ghost use Rattle.std.specs.Borrow.{sem};
 ghost use Rattle.px_frame.specs.Cell.{value_of_cell};
-ghost use Rattle.px_context.specs.Changes.{aggregated, finalized, groups_for, is_pending, laid_kind, regrouped};
+ghost use Rattle.px_context.specs.Changes.{KeepsType, aggregated, finalized, groups_for, is_pending, laid_kind, regrouped};
 ghost use Rattle.px_context.specs.Context.{cells_of};
 ghost use Rattle.px_context.specs.IterView.{left_of};
 ghost use Rattle.px_context.specs.Lends.{RestsAs};
@@ -21,6 +21,7 @@ impl<'a> AggregationContext<'a> {
         ensures answer { LentBy (λ _. self.new) result (regrouped self.old) }
         ensures refused { OnErr result (self.new ≡ self.old) }
         ensures cells { cells_of self.new ≡ cells_of self.old }
+        ensures types { KeepsType self.old self.new }
         ensures free { is_pending self.old.update ≡ false → IsOk result }
     {
         match self.update_groups(alloc) {
@@ -33,6 +34,7 @@ impl<'a> AggregationContext<'a> {
         ensures answer { LentBy (λ _. self.new) result (aggregated self.old) }
         ensures refused { OnErr result (self.new ≡ self.old) }
         ensures cells { cells_of self.new ≡ cells_of self.old }
+        ensures types { KeepsType self.old self.new }
         ensures values { OnOk result (self.new.values.slots ≡ map value_of_cell (cells_of self.new)) }
         ensures kind { OnOk result (self.new.values.kind ≡ laid_kind self.old) }
     {
@@ -70,6 +72,7 @@ impl<'a> AggregationContext<'a> {
     /// The cell of each group in order, lent; no value is copied, and no memory is taken.
     pub fn iter_groups<'s>(&'s mut self, _alloc: Global) -> Result<GroupIter<'s>, Refused>
         ensures answer { LentBy left_of result (Ok (parts_in self.old.layout self.old.values self.old.groups)) }
+        ensures each { IfOk result (λ cells. length (left_of cells) ≡ length self.old.groups.groups) }
         ensures free { IsOk result }
         ensures* after { sem 𝓛 (RestsAs self.entry result (Ok self.old)) }
     {
