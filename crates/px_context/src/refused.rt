@@ -15,7 +15,7 @@ pub enum Refused {
 }
 
 /// The refusal of a call that has no others.
-pub(crate) fn without_memory(error: PxError) -> Refused
+pub(crate) fn refusal_of(error: PxError) -> Refused
     ensures { result ≡ refused_of error }
 {
     match error {

@@ -11,7 +11,7 @@ ghost use Rattle.px_context.specs.Refused.{LentBy};
 
 use crate::context::AggregationContext;
 use crate::group_iter::GroupIter;
-use crate::refused::{Refused, without_memory};
+use crate::refused::{Refused, refusal_of};
 use px_column::Column;
 use px_frame::GroupPositions;
 use std::alloc::Global;
@@ -26,7 +26,7 @@ impl<'a> AggregationContext<'a> {
     {
         match self.update_groups(alloc) {
             Ok(()) => Ok(()),
-            Err(error) => Err(without_memory(error)),
+            Err(error) => Err(refusal_of(error)),
         }
     }
 
@@ -40,7 +40,7 @@ impl<'a> AggregationContext<'a> {
     {
         match self.aggregate(alloc) {
             Ok(()) => Ok(()),
-            Err(error) => Err(without_memory(error)),
+            Err(error) => Err(refusal_of(error)),
         }
     }
 

@@ -1,0 +1,9 @@
+//! Trials of contexts: worked examples, and a slow program beside the calls. Nothing stands on this crate.
+#![tactic(auto)]
+
+#[cfg(test)]
+mod generated;
+#[cfg(test)]
+mod told;
+#[cfg(test)]
+mod worked;
