@@ -2,13 +2,11 @@
 use Rattle.std.proofs.Common.{◌≡◌, ℕ, zero, suc, ◌+◌, ◌^◌, Bool, true, false, List, [], ◌∷◌, Some, None, Ok, Err, cond, length, map, nat_lt, refl, replicate, sum, sym, ◌∙◌, ap, subst, arith}
 use Rattle.std.specs.List.{list_all, range_with_len}
 use Rattle.std.proofs.lemmas.List.{length-map, length-replicate}
-use Rattle.px_column.specs.Prelude.{Refuses}
 use Rattle.px_column.specs.Datum.{boolean, integer, text, bytes, list, Slot, Slots, no_slots, absent, present, slots, items, items-slots}
 use Rattle.px_value.proofs.FitLaws.{both}
 use Rattle.px_column.specs.Kind.{Kind, is_list_kind, lists}
 use Rattle.px_column.specs.Series.{Series, slot_at}
-use Rattle.px_value.specs.declared.error.PxError.{PxError}
-use Rattle.px_value.specs.declared.error.PxError.TheVariants.{ColumnNotFound, Duplicate, InvalidOperation, ComputeError, OutOfBounds, ShapeMismatch, SchemaMismatch, OutOfMemory}
+use Rattle.px_value.specs.declared.error.PxError.TheVariants.{ComputeError}
 use Rattle.px_value.specs.declared.error.ComputeWhy.TheVariants.{TooLong}
 use Rattle.px_frame.specs.Cell.{unit, rows, value_of_cell}
 use Rattle.px_frame.specs.Frame.{slots_at}
@@ -17,7 +15,6 @@ use Rattle.px_frame.specs.Reduced.{listed_by, reduced_at}
 use Rattle.px_value.specs.declared.method.GroupByMethod.TheVariants.{Implode}
 use Rattle.px_context.specs.Context.{AreLists, cells_in, is_list_slot, item_kind, items_at}
 use Rattle.px_context.specs.Changes.{all_rows, first_repeated}
-use Rattle.px_context.specs.declared.agg_state.Layout.{Layout}
 use Rattle.px_context.specs.declared.agg_state.Layout.TheVariants.{Lists, Scalars, Flat, Rows, Unit as Single}
 
 -- what is made where it is not too long

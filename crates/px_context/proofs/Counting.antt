@@ -1,5 +1,5 @@
 -- A context has as many cells as groups.
-use Rattle.std.proofs.Common.{◌≡◌, ◌∙◌, length, map}
+use Rattle.std.proofs.Common.{◌≡◌, ◌∙◌, length}
 use Rattle.std.proofs.lemmas.List.{length-map}
 use Rattle.px_column.specs.Prelude.{Series, slot_at}
 use Rattle.px_frame.specs.Cell.{rows, unit}

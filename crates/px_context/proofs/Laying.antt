@@ -1,6 +1,6 @@
 -- What a context with a list or a value for each group has in common with the one that it is made of.
-use Rattle.std.proofs.Common.{◌≡◌, ◌∙◌, Bool, Result, Ok, Err, OnErr, OnOk, length, map, refl, sym, ap, subst}
-use Rattle.px_column.specs.Prelude.{AnswersBy, Series, lists}
+use Rattle.std.proofs.Common.{◌≡◌, Bool, Result, Ok, Err, OnErr, OnOk, length, map, refl, sym, ap, subst}
+use Rattle.px_column.specs.Prelude.{AnswersBy, Series}
 use Rattle.px_column.specs.Result.{◌>>=◌}
 use Rattle.px_value.specs.declared.error.PxError.{PxError}
 use Rattle.px_frame.specs.Cell.{value_of_cell}

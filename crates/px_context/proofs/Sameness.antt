@@ -1,5 +1,5 @@
 -- Laws of cells, and of what is too long.
-use Rattle.std.proofs.Common.{◌≡◌, ℕ, zero, suc, ◌+◌, ◌^◌, ◌<◌, ◌≤◌, Bool, true, false, List, [], ◌∷◌, Result, Ok, Err, cond, fold, length, map, nat_lt, replicate, sum, refl, sym, ◌∙◌, ap, subst, arith}
+use Rattle.std.proofs.Common.{◌≡◌, ℕ, ◌+◌, ◌^◌, ◌≤◌, Bool, true, false, List, [], ◌∷◌, Result, Ok, Err, cond, fold, length, map, nat_lt, replicate, sum, refl, sym, ◌∙◌, ap, subst, arith}
 use Rattle.std.specs.List.{flat_map, range_with_len}
 use Rattle.std.proofs.lemmas.Bool.Decides.{nat_tests}
 use Rattle.std.proofs.lemmas.List.{length-map}
@@ -16,7 +16,7 @@ use Rattle.px_frame.specs.Consecutive.{consecutive, slices_from}
 use Rattle.px_frame.specs.Frame.{slots_at}
 use Rattle.px_frame.specs.Groups.{Group, Groups, lengths_of, rows_of}
 use Rattle.px_frame.specs.GroupsView.{groups_of}
-use Rattle.px_frame.specs.Reduced.{listed_by, reduced_at}
+use Rattle.px_frame.specs.Reduced.{reduced_at}
 use Rattle.px_frame.specs.declared.groups.GroupsType.{GroupsType}
 use Rattle.px_context.specs.Changes.{aggregated, aggregated_in, all_rows, counts_of, groups_for, groups_under, is_pending, with_lists}
 use Rattle.px_context.specs.Context.{Context, cells_in, cells_of, items_at}

@@ -1,5 +1,5 @@
 -- How a context is laid out anew.
-use Rattle.std.specs.Prelude.{◌≡◌, ◌⊎◌, ℕ, List, Some, Result, Ok, length, map, replicate, Bool, true, false, if◌then◌else◌}
+use Rattle.std.specs.Prelude.{◌≡◌, ◌⊎◌, ℕ, List, Result, Ok, length, map, replicate, Bool, true, false, if◌then◌else◌}
 use Rattle.std.specs.List.{range_with_len}
 use Rattle.px_column.specs.Prelude.{Kind, lists, Series, slot_at}
 use Rattle.px_column.specs.Repeat.{repeated}

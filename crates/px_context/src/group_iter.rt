@@ -1,12 +1,8 @@
 //! The cells of a context, lent one after another.
-ghost use Rattle.std.specs.Prelude.{◌≡◌, ◌<◌, IsTrue, Some, length, slice_get, true};
+ghost use Rattle.std.specs.Prelude.{◌≡◌, ◌<◌, IsTrue, Some, length, true};
 ghost use Rattle.std.specs.List.{list_all};
 ghost use Rattle.px_column.specs.Prelude.{datum_of_ref, is_list_kind, kind_of, slot_at, slots_fit};
-ghost use Rattle.px_frame.specs.Frame.{slots_at};
-ghost use Rattle.px_frame.specs.Cell.{rows, unit};
-ghost use Rattle.px_frame.specs.Groups.{Group};
 ghost use Rattle.px_context.specs.Context.{HasShape, is_list_slot, item_kind, items_at, items_of};
-ghost use Rattle.px_context.specs.LentView.{literal_layout};
 ghost use Rattle.px_context.specs.Part.{part, parts_in};
 
 use crate::agg_state::Layout;

@@ -107,18 +107,40 @@ fn has_cells(
     Ok(pieces.next().is_none())
 }
 
-/// Whether a context has them as it is made, as lists, and over rebuilt groups.
+/// Whether a context has them as lists.
+fn has_lists(
+    alloc: Global,
+    context: &mut AggregationContext<'_>,
+    rows: &[Option<i128>],
+    groups: &GroupPositions,
+) -> Px<bool> {
+    context.aggregate(alloc)?;
+    has_cells(alloc, context, rows, groups)
+}
+
+/// Whether a context has them over rebuilt groups.
+fn has_rebuilt(
+    alloc: Global,
+    context: &mut AggregationContext<'_>,
+    rows: &[Option<i128>],
+    groups: &GroupPositions,
+) -> Px<bool> {
+    context.update_groups(alloc)?;
+    has_cells(alloc, context, rows, groups)
+}
+
+/// Whether a context has them as it is made, and then as lists, and then over rebuilt groups.
 fn keeps_cells(
     alloc: Global,
     context: &mut AggregationContext<'_>,
     rows: &[Option<i128>],
     groups: &GroupPositions,
 ) -> Px<bool> {
-    let made = has_cells(alloc, context, rows, groups)?;
-    context.aggregated(alloc)?;
-    let listed = has_cells(alloc, context, rows, groups)?;
-    context.groups(alloc)?;
-    Ok(made && listed && has_cells(alloc, context, rows, groups)?)
+    Ok(
+        has_cells(alloc, context, rows, groups)?
+            && has_lists(alloc, context, rows, groups)?
+            && has_rebuilt(alloc, context, rows, groups)?,
+    )
 }
 
 /// Whether a context that is taken apart still has them.

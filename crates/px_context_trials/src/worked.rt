@@ -184,39 +184,31 @@ fn a_borrowed_column_becomes_an_equal_one(rt: HostRuntime) -> Result<(), Fail> {
     Ok(())
 }
 
-// The marks of a context whose groups, and then whose column, are replaced.
-fn marks(alloc: Global) -> Px<(bool, bool, bool)> {
+// Whether other values leave a context untouched, and other groups do not.
+fn keeps_marks(
+    context: &mut AggregationContext<'_>,
+    values: Column,
+    groups: GroupPositions,
+) -> bool {
+    if values.len() != context.kept_groups().height() || values.len() != groups.height() {
+        return false;
+    }
+    context.with_values(values, false);
+    let kept = context.is_untouched();
+    context.with_groups(groups);
+    kept && !context.is_untouched()
+}
+
+fn keeps_marks_of_four_rows(alloc: Global) -> Px<bool> {
     let values = column(alloc, "Int64", "[0,1,2,3]")?;
     let groups = two_groups(alloc)?;
-    if values.len() != groups.height() {
-        return Err(PxError::ShapeMismatch);
-    }
-    let mut context = AggregationContext::new(
-        ColRef::Borrowed(&values),
-        GroupsRef::Borrowed(&groups),
-        false,
-    );
-    context.with_values(values.try_clone(alloc)?, false);
-    let kept = context.is_untouched();
-    let other = slices(vec![in alloc; [0, 4]]?, 4)?;
-    if other.height() != values.len() {
-        return Err(PxError::ShapeMismatch);
-    }
-    context.with_groups(other);
-    let touched = !context.is_untouched();
-    context.with_literal(values.try_clone(alloc)?, false);
-    Ok((
-        kept,
-        touched,
-        context.is_literal() && !context.is_unit_literal(),
-    ))
+    let others = two_groups(alloc)?;
+    let mut context = flat(&values, &groups)?;
+    Ok(keeps_marks(&mut context, values.try_clone(alloc)?, others))
 }
 
 #[test]
 fn other_groups_are_marked_and_other_values_are_not(rt: HostRuntime) -> Result<(), Fail> {
-    let (kept, touched, literal) = marks(rt.alloc())?;
-    assert!(rt; kept);
-    assert!(rt; touched);
-    assert!(rt; literal);
+    assert!(rt; keeps_marks_of_four_rows(rt.alloc())?);
     Ok(())
 }

@@ -1,8 +1,8 @@
 //! The items of the lists of a column, one list after another.
 ghost use Rattle.std.specs.Prelude.{◌≡◌, ◌+◌, ◌<◌, ◌^◌, ◌++◌, [], Ok, OnOk, length, true};
 ghost use Rattle.std.specs.List.{flat_map};
-ghost use Rattle.px_column.specs.Prelude.{Answers, AnswersBy, datum_of_ref, is_list_kind, kind_of, lists, fits, slot_fits, slot_of_ref, slots_fit};
-ghost use Rattle.px_context.specs.Context.{item_kind, items_at, items_of};
+ghost use Rattle.px_column.specs.Prelude.{Answers, AnswersBy, datum_of_ref, is_list_kind, lists, fits, slot_fits, slot_of_ref, slots_fit};
+ghost use Rattle.px_context.specs.Context.{items_at, items_of};
 ghost use Rattle.px_context.specs.Final.{flat_in, joined};
 ghost use Rattle.px_context.specs.LentView.{series_of};
 

@@ -1,4 +1,4 @@
-use Rattle.std.proofs.Common.{◌≡◌, ◌∙◌, ◌≤◌, ap, arith, length}
+use Rattle.std.proofs.Common.{◌∙◌, ◌≤◌, ap, arith, length}
 use Rattle.px_column.specs.Prelude.{Series, slot_fits, slot_of_ref}
 use Rattle.px_frame.specs.Cell.{list_of}
 use Rattle.px_column.proofs.Building.{built_all, built_more}
