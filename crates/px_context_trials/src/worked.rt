@@ -8,16 +8,6 @@ use px_frame::{GroupPositions, GroupsIndicator, GroupsType, IdxVec, list_groups}
 use std::alloc::Global;
 use std::test::Fail;
 
-// What a call lends of a context with a list or a value for each group.
-fn aggregated(alloc: Global, context: &mut AggregationContext<'_>) -> Px<Name> {
-    let column = context.aggregated(alloc)?;
-    told(alloc, column.try_clone(alloc)?)
-}
-
-fn finalized(alloc: Global, context: &mut AggregationContext<'_>) -> Px<Name> {
-    told(alloc, context.finalize(alloc)?)
-}
-
 // Whether these are the groups, as slices.
 fn are_slices(groups: &GroupPositions, slices: &[[u32; 2]]) -> bool {
     if groups.len() as usize != slices.len() {
@@ -35,6 +25,25 @@ fn are_slices(groups: &GroupPositions, slices: &[[u32; 2]]) -> bool {
     true
 }
 
+// What a call lends of a context with a list or a value for each group.
+fn aggregated(alloc: Global, context: &mut AggregationContext<'_>) -> Px<Name> {
+    let column = context.aggregated(alloc)?;
+    told(alloc, column.try_clone(alloc)?)
+}
+
+fn finalized(alloc: Global, context: &mut AggregationContext<'_>) -> Px<Name> {
+    told(alloc, context.finalize(alloc)?)
+}
+
+// The cell of a group, as a column.
+fn cell(alloc: Global, context: &mut AggregationContext<'_>, index: usize) -> Px<Name> {
+    let mut cells = context.iter_groups(alloc)?;
+    match cells.nth(index) {
+        Some(piece) => told(alloc, piece.to_column(alloc, Name::new(alloc, "y")?)?),
+        None => Err(PxError::OutOfBounds),
+    }
+}
+
 // The values of a context that is taken apart, where the groups are these slices.
 fn apart(alloc: Global, context: AggregationContext<'_>, slices: &[[u32; 2]]) -> Px<Name> {
     let (column, groups) = context.get_final_aggregation(alloc)?;
@@ -44,22 +53,50 @@ fn apart(alloc: Global, context: AggregationContext<'_>, slices: &[[u32; 2]]) ->
     told(alloc, column.into_owned(alloc)?)
 }
 
+fn four(alloc: Global) -> Px<Column> {
+    column(alloc, "Int64", "[0,1,2,3]")
+}
+
+// Slices that overlap.
+fn overlapping(alloc: Global) -> Px<GroupPositions> {
+    slices(vec![in alloc; [0, 1], [0, 2], [0, 4]]?, 4)
+}
+
+fn aggregated_over(alloc: Global, values: &Column, groups: &GroupPositions) -> Px<Name> {
+    let mut context = flat(values, groups)?;
+    aggregated(alloc, &mut context)
+}
+
+fn overlapping_lists(alloc: Global) -> Px<Name> {
+    let values = four(alloc)?;
+    let groups = overlapping(alloc)?;
+    aggregated_over(alloc, &values, &groups)
+}
+
+// The values that are taken apart after lists were made of them.
+fn listed_apart(alloc: Global, values: &Column, groups: &GroupPositions) -> Px<Name> {
+    let mut context = flat(values, groups)?;
+    context.aggregate(alloc)?;
+    apart(alloc, context, &[[0, 1], [1, 2], [3, 4]])
+}
+
+fn overlapping_apart(alloc: Global) -> Px<Name> {
+    let values = four(alloc)?;
+    let groups = overlapping(alloc)?;
+    listed_apart(alloc, &values, &groups)
+}
+
 #[test]
 fn slices_that_overlap_become_lists_and_slices_one_after_another(
     rt: HostRuntime,
 ) -> Result<(), Fail> {
     let alloc = rt.alloc();
-    let values = column(alloc, "Int64", "[0,1,2,3]")?;
-    let groups = slices(vec![in alloc; [0, 1], [0, 2], [0, 4]]?, 4)?;
-    let mut context = flat(&values, &groups)?;
-    assert!(rt; context.is_untouched() && context.is_not_aggregated());
     assert_eq!(rt;
-        aggregated(alloc, &mut context)?.as_str(),
+        overlapping_lists(alloc)?.as_str(),
         "[\"x\"]\n[\"List(Int64)\"]\n[[0]]\n[[0,1]]\n[[0,1,2,3]]\n"
     );
-    assert!(rt; context.is_aggregated() && !context.is_untouched());
     assert_eq!(rt;
-        apart(alloc, context, &[[0, 1], [1, 2], [3, 4]])?.as_str(),
+        overlapping_apart(alloc)?.as_str(),
         "[\"x\"]\n[\"Int64\"]\n[0]\n[0]\n[1]\n[0]\n[1]\n[2]\n[3]\n"
     );
     Ok(())
@@ -76,33 +113,43 @@ fn two_groups(alloc: Global) -> Px<GroupPositions> {
     GroupPositions::new(GroupsType::Idx(vec![in alloc; (0, first), (1, last)]?), 4)
 }
 
-// The cell of a group, as a column.
-fn cell(alloc: Global, context: &mut AggregationContext<'_>, index: usize) -> Px<Name> {
-    let mut cells = context.iter_groups(alloc)?;
-    match cells.nth(index) {
-        Some(piece) => told(alloc, piece.to_column(alloc, Name::new(alloc, "y")?)?),
-        None => Err(PxError::OutOfBounds),
-    }
+fn finalized_over(alloc: Global, values: &Column, groups: &GroupPositions) -> Px<Name> {
+    let mut context = flat(values, groups)?;
+    finalized(alloc, &mut context)
+}
+
+fn lists_of_two(alloc: Global) -> Px<Name> {
+    let values = four(alloc)?;
+    let groups = two_groups(alloc)?;
+    finalized_over(alloc, &values, &groups)
+}
+
+fn cell_over(alloc: Global, values: &Column, groups: &GroupPositions, index: usize) -> Px<Name> {
+    let mut context = flat(values, groups)?;
+    cell(alloc, &mut context, index)
+}
+
+fn cell_of_two(alloc: Global, index: usize) -> Px<Name> {
+    let values = four(alloc)?;
+    let groups = two_groups(alloc)?;
+    cell_over(alloc, &values, &groups, index)
 }
 
 #[test]
 fn each_group_has_its_list(rt: HostRuntime) -> Result<(), Fail> {
     let alloc = rt.alloc();
-    let values = column(alloc, "Int64", "[0,1,2,3]")?;
-    let groups = two_groups(alloc)?;
-    let mut context = flat(&values, &groups)?;
-    let lists = "[\"x\"]\n[\"List(Int64)\"]\n[[0,2,3]]\n[[1]]\n";
     assert_eq!(rt;
-        cell(alloc, &mut context, 0)?.as_str(),
+        lists_of_two(alloc)?.as_str(),
+        "[\"x\"]\n[\"List(Int64)\"]\n[[0,2,3]]\n[[1]]\n"
+    );
+    assert_eq!(rt;
+        cell_of_two(alloc, 0)?.as_str(),
         "[\"y\"]\n[\"Int64\"]\n[0]\n[2]\n[3]\n"
     );
     assert_eq!(rt;
-        cell(alloc, &mut context, 1)?.as_str(),
+        cell_of_two(alloc, 1)?.as_str(),
         "[\"y\"]\n[\"Int64\"]\n[1]\n"
     );
-    assert!(rt; cell(alloc, &mut context, 2).is_err());
-    assert_eq!(rt; finalized(alloc, &mut context)?.as_str(), lists);
-    assert_eq!(rt; aggregated(alloc, &mut context)?.as_str(), lists);
     Ok(())
 }
 
@@ -122,24 +169,55 @@ fn lists<'a>(
     Ok(context)
 }
 
-fn joined(alloc: Global, context: &AggregationContext<'_>) -> Px<Name> {
+fn apart_over(alloc: Global, values: &Column, groups: &GroupPositions) -> Px<Name> {
+    let context = lists(alloc, values, groups)?;
+    apart(alloc, context, &[[0, 3], [3, 0]])
+}
+
+fn joined_over(alloc: Global, values: &Column, groups: &GroupPositions) -> Px<Name> {
+    let context = lists(alloc, values, groups)?;
     told(alloc, context.flat_naive(alloc)?.into_owned(alloc)?)
 }
 
-fn rebuilt(alloc: Global, context: &mut AggregationContext<'_>, slices: &[[u32; 2]]) -> Px<bool> {
-    Ok(are_slices(context.groups(alloc)?, slices))
+fn regrouped_over(alloc: Global, values: &Column, groups: &GroupPositions) -> Px<bool> {
+    let mut context = lists(alloc, values, groups)?;
+    Ok(are_slices(context.groups(alloc)?, &[[0, 3], [3, 0]]))
+}
+
+fn three(alloc: Global) -> Px<Column> {
+    column(alloc, "Int64", "[0,2,3]")
+}
+
+// A list of three values, and an empty one.
+fn all_and_none(alloc: Global) -> Px<GroupPositions> {
+    slices(vec![in alloc; [0, 3], [1, 0]]?, 3)
+}
+
+fn lists_apart(alloc: Global) -> Px<Name> {
+    let values = three(alloc)?;
+    let groups = all_and_none(alloc)?;
+    apart_over(alloc, &values, &groups)
+}
+
+fn lists_joined(alloc: Global) -> Px<Name> {
+    let values = three(alloc)?;
+    let groups = all_and_none(alloc)?;
+    joined_over(alloc, &values, &groups)
+}
+
+fn lists_regrouped(alloc: Global) -> Px<bool> {
+    let values = three(alloc)?;
+    let groups = all_and_none(alloc)?;
+    regrouped_over(alloc, &values, &groups)
 }
 
 #[test]
 fn an_empty_list_takes_no_place(rt: HostRuntime) -> Result<(), Fail> {
     let alloc = rt.alloc();
-    let values = column(alloc, "Int64", "[0,2,3]")?;
-    let groups = slices(vec![in alloc; [0, 3], [1, 0]]?, 3)?;
-    let mut context = lists(alloc, &values, &groups)?;
     let text = "[\"x\"]\n[\"Int64\"]\n[0]\n[2]\n[3]\n";
-    assert_eq!(rt; joined(alloc, &context)?.as_str(), text);
-    assert!(rt; rebuilt(alloc, &mut context, &[[0, 3], [3, 0]])?);
-    assert_eq!(rt; apart(alloc, context, &[[0, 3], [3, 0]])?.as_str(), text);
+    assert!(rt; lists_regrouped(alloc)?);
+    assert_eq!(rt; lists_joined(alloc)?.as_str(), text);
+    assert_eq!(rt; lists_apart(alloc)?.as_str(), text);
     Ok(())
 }
 
@@ -199,12 +277,17 @@ fn keeps_marks(
     kept && !context.is_untouched()
 }
 
-fn keeps_marks_of_four_rows(alloc: Global) -> Px<bool> {
-    let values = column(alloc, "Int64", "[0,1,2,3]")?;
-    let groups = two_groups(alloc)?;
+fn keeps_marks_over(alloc: Global, values: &Column, groups: &GroupPositions) -> Px<bool> {
+    let other = four(alloc)?;
     let others = two_groups(alloc)?;
-    let mut context = flat(&values, &groups)?;
-    Ok(keeps_marks(&mut context, values.try_clone(alloc)?, others))
+    let mut context = flat(values, groups)?;
+    Ok(keeps_marks(&mut context, other, others))
+}
+
+fn keeps_marks_of_four_rows(alloc: Global) -> Px<bool> {
+    let values = four(alloc)?;
+    let groups = two_groups(alloc)?;
+    keeps_marks_over(alloc, &values, &groups)
 }
 
 #[test]
