@@ -3,6 +3,7 @@ pub mod Beside
 pub mod Defined
 pub mod PartRows
 pub mod OrderedRows
+pub mod InOrder
 pub mod GroupRows
 pub mod FirstRows
 pub mod Joining

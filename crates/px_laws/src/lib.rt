@@ -2,10 +2,12 @@
 #![tactic(auto)]
 
 mod merge;
+mod order;
 mod parts;
 mod value;
 
 pub use merge::partial_values_merge;
+pub use order::sorted_rows_are_in_order;
 pub use parts::{
     group_rows_are_the_frame, ordered_parts_hold_each_row_once, parts_are_the_rows_of_a_key,
     parts_hold_each_row_once, parts_stand_by_their_first_rows, spread_keeps_equal_lengths,
