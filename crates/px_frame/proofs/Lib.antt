@@ -1,5 +1,6 @@
 pub mod Looking
 pub mod Rows
+pub mod Kept
 pub mod Entering
 pub mod Started
 pub mod Ranges
@@ -14,3 +15,4 @@ pub mod Slices
 pub mod Consecutive
 pub mod InOrder
 pub mod Reducing
+pub mod Units

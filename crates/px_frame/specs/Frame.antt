@@ -4,8 +4,10 @@ use Rattle.std.specs.List.{list_any, list_all}
 use lib.Pointwise.{pointwise}
 use Rattle.px_column.specs.Prelude.{Slot, Series, slot_at}
 use Rattle.px_column.specs.Column.{taken_at, all_within}
+use Rattle.px_column.specs.Operator.{is_boolean_kind}
+use Rattle.px_column.specs.Rows.{kept_rows}
 use Rattle.px_value.specs.declared.error.PxError.{PxError}
-use Rattle.px_value.specs.declared.error.PxError.TheVariants.{Duplicate, ShapeMismatch}
+use Rattle.px_value.specs.declared.error.PxError.TheVariants.{Duplicate, ShapeMismatch, SchemaMismatch}
 
 -- the same name
 abbrev pub name_eq : List ℕ → List ℕ → Bool
@@ -82,3 +84,14 @@ series_at rows s = record s { slots = slots_at s.slots rows }
 -- the frame of these rows, in this order
 abbrev pub subframe : List Series → List ℕ → List Series
 subframe frame rows = map (series_at rows) frame
+
+-- a column's rows whose mask is true
+abbrev pub kept_series : List Slot → Series → Series
+kept_series mask s = record s { slots = kept_rows mask s.slots }
+
+-- the frame of the rows whose mask is true; a mask of no truths is refused before one of another height
+abbrev pub kept_frame : List Series → Series → Result (List Series) PxError
+kept_frame frame mask =
+    if is_boolean_kind mask.kind then
+    (if length mask.slots == height_of frame then Ok (map (kept_series mask.slots) frame) else Err ShapeMismatch)
+    else Err SchemaMismatch

@@ -4,7 +4,7 @@ use Rattle.std.specs.Prelude.{ℕ, ◌==◌, List, [], ◌∷◌, length, map, r
 use Rattle.px_column.specs.Prelude.{Slot, Kind, Series}
 use Rattle.px_value.specs.declared.error.PxError.{PxError}
 use Rattle.px_value.specs.declared.error.PxError.TheVariants.{ShapeMismatch}
-use Rattle.px_frame.specs.Cell.{Cell, unit, rows}
+use Rattle.px_frame.specs.Cell.{Cell, unit, rows, list_of}
 use Rattle.px_frame.specs.Frame.{first_repeat, unless_repeated}
 
 -- a cell at n rows: a unit stands at each, a list must have as many
@@ -23,6 +23,10 @@ pub record NamedCell : Type 0 where
   pub name : List ℕ
   pub kind : Kind
   pub cell : Cell
+
+-- a value under its name and type as a column; a unit is one row
+abbrev pub column_of_cell : NamedCell → Series
+column_of_cell c = record { name = c.name; kind = c.kind; slots = list_of c.cell }
 
 -- a named cell's column of these places, or the refusal
 abbrev pub with_slots : NamedCell → Result (List Slot) PxError → Result Series PxError

@@ -1,10 +1,11 @@
 //! The values of expressions side by side: units, which take any length, beside lists of one length.
-ghost use Rattle.std.specs.Prelude.{◌≡◌, ◌<◌, ◌^◌, [], Ok, IfOk, length, map};
+ghost use Rattle.std.specs.Prelude.{◌≡◌, ◌<◌, ◌^◌, [], Ok, IfOk, length, map, true};
 ghost use Rattle.px_column.specs.Prelude.{Answers, AnswersBy, slot_at};
 ghost use Rattle.px_column.specs.Repeat.{repeated};
+ghost use Rattle.px_frame.specs.Cell.{cell_of, is_unit_cell};
 ghost use Rattle.px_frame.specs.CellView.{named_cell};
 ghost use Rattle.px_frame.specs.Frame.{first_repeat, height_of, unless_repeated};
-ghost use Rattle.px_frame.specs.Spread.{assembled, rows_beside, spread_all, spread_column};
+ghost use Rattle.px_frame.specs.Spread.{assembled, column_of_cell, rows_beside, spread_all, spread_column};
 
 use crate::frame::{DataFrame, add_name};
 use indexmap::IndexSet;
@@ -60,6 +61,14 @@ impl UnitColumn {
         &self.column
     }
 
+    /// The column of one row.
+    fn into_column(self) -> Column
+        ensures column { result ≡ self }
+        ensures one { length self.slots ≡ 1 }
+    {
+        self.column
+    }
+
     /// The unit at each of `height` rows.
     fn repeat(&self, alloc: Global, height: u32) -> Px<Column>
         ensures { Answers result (Ok (repeated self.now.name self.now.kind (slot_at self.now.slots 0) height)) }
@@ -69,6 +78,48 @@ impl UnitColumn {
 }
 
 impl Cell {
+    /// The values of a column as a cell: one unit where that is asked for, of a column of one row, and
+    /// else its rows.
+    pub fn new(column: Column, is_unit: bool) -> Cell
+        requires { is_unit ≡ true → length column.slots ≡ 1 }
+        ensures { named_cell result ≡ record { name = column.name; kind = column.kind; cell = cell_of is_unit column.slots } }
+    {
+        if is_unit {
+            Cell::Unit(UnitColumn::new(column))
+        } else {
+            Cell::Rows(column)
+        }
+    }
+
+    /// Whether it is a unit.
+    pub fn is_unit(&self) -> bool
+        ensures { result ≡ is_unit_cell (named_cell self.now).cell }
+    {
+        matches!(self, Cell::Unit(_))
+    }
+
+    /// The values as a column, a unit as its one row.
+    #[tactic(auto, using(crate::proofs::Units::unit_column))]
+    pub fn as_column(&self) -> &Column
+        ensures { result.now ≡ column_of_cell (named_cell self.now) }
+    {
+        match self {
+            Cell::Unit(unit) => unit.as_column(),
+            Cell::Rows(column) => column,
+        }
+    }
+
+    /// The values as a column, a unit as its one row.
+    #[tactic(auto, using(crate::proofs::Units::unit_column))]
+    pub fn into_column(self) -> Column
+        ensures { result ≡ column_of_cell (named_cell self) }
+    {
+        match self {
+            Cell::Unit(unit) => unit.into_column(),
+            Cell::Rows(column) => column,
+        }
+    }
+
     /// The name of the values.
     pub fn name(&self) -> &Name
         ensures { result.now ≡ (named_cell self.now).name }

@@ -3,13 +3,14 @@ ghost use Rattle.std.specs.Prelude.{◌≡◌, ◌<◌, ◌≤◌, ◌+◌, ◌^
 ghost use Rattle.std.specs.List.{list_any, range_with_len};
 ghost use Rattle.px_column.specs.Prelude.{Answers, AnswersBy};
 ghost use Rattle.px_column.specs.Column.{all_within};
+ghost use Rattle.px_column.specs.Operator.{is_boolean_kind};
 ghost use Rattle.px_value.specs.declared.error.PxError.TheVariants.{Duplicate};
-ghost use Rattle.px_frame.specs.Frame.{look, height_of, frame_of, first_repeat, all_have_height, names_of, name_eq, unless_repeated, subframe, are_below, are_in_all, taken_series};
+ghost use Rattle.px_frame.specs.Frame.{look, height_of, frame_of, first_repeat, all_have_height, has_height, names_of, name_eq, unless_repeated, subframe, are_below, are_in_all, taken_series, kept_frame, kept_series};
 ghost use Rattle.px_frame.specs.Schema.{column_field};
 
 use crate::schema::{Schema, schema_of};
 use indexmap::IndexSet;
-use px_column::{Column, Name, Px, PxError};
+use px_column::{Column, Name, Px, PxError, is_boolean};
 use std::alloc::Global;
 use std::marker::Model;
 
@@ -158,6 +159,22 @@ impl DataFrame {
         self.take_rows(alloc, &rows)
     }
 
+    /// The rows whose mask is true; a null in the mask keeps no row (polars `filter`, which repeats a
+    /// mask of one row). `SchemaMismatch` where the mask has no truths, then `ShapeMismatch` where it
+    /// has not the frame's height, be it one row.
+    pub fn filter(&self, alloc: Global, mask: &Column) -> Px<DataFrame>
+        ensures answer { Answers result (kept_frame self.now mask.now) }
+        ensures short { IfOk result (λ f. height_of f < 2 ^ 32) }
+    {
+        if !is_boolean(mask.dtype()) {
+            return Err(PxError::SchemaMismatch);
+        }
+        if mask.len() != self.height() {
+            return Err(PxError::ShapeMismatch);
+        }
+        DataFrame::new(alloc, filter_columns(alloc, &self.columns, mask)?)
+    }
+
     /// The names and types of the columns in their order (polars `DataFrame::schema`).
     pub fn schema(&self, alloc: Global) -> Px<Schema>
         ensures { Answers result (Ok (map column_field self.now)) }
@@ -196,6 +213,28 @@ pub(crate) fn take_columns(
         taken.push(take_column(alloc, column, indices)?)?;
     }
     Ok(taken)
+}
+
+#[tactic(auto, using(crate::proofs::Kept::kept_column_even))]
+fn filter_column(alloc: Global, column: &Column, mask: &Column) -> Px<Column>
+    requires boolean { is_boolean_kind mask.now.kind ≡ true }
+    requires height { has_height (length mask.now.slots) column.now ≡ true }
+    ensures { Answers result (Ok (kept_series mask.now.slots column.now)) }
+{
+    column.filter(alloc, mask)
+}
+
+/// The rows of each column whose mask is true.
+fn filter_columns(alloc: Global, columns: &[Column], mask: &Column) -> Px<Vec<Column>>
+    requires boolean { is_boolean_kind mask.now.kind ≡ true }
+    requires height { all_have_height (length mask.now.slots) columns.now ≡ true }
+    ensures { AnswersBy (λ v. v.items) result (Ok (map (kept_series mask.now.slots) columns.now)) }
+{
+    let mut kept = Vec::with_capacity(alloc, columns.len())?;
+    for column in columns {
+        kept.push(filter_column(alloc, column, mask)?)?;
+    }
+    Ok(kept)
 }
 
 fn all_some(alloc: Global, rows: &[u32]) -> Px<Vec<Option<u32>>>
