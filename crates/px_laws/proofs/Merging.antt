@@ -15,7 +15,8 @@ use Rattle.px_value.specs.declared.method.GroupByMethod.TheVariants.{Min, Max, S
 use Rattle.px_frame.specs.Cell.{Cell, unit, rows, value_of_cell}
 use Rattle.px_frame.specs.External.{Frame, height, scope_of, rows_of_frame}
 use Rattle.px_frame.specs.Frame.{height_of, series_at}
-use Rattle.px_tree.specs.Node.{is_unit_cell, function_cell, reduction_cell}
+use Rattle.px_tree.specs.Node.{function_cell, reduction_cell}
+use Rattle.px_frame.specs.Cell.{is_unit_cell}
 use Rattle.px_tree.specs.Nodes.{leaf_names}
 use Rattle.px_tree.specs.Partition.{is_elementwise, are_elementwise, is_row_function, is_merged_method, inner_rows, merged_by}
 use Rattle.px_tree.specs.Shape.{is_unit, is_unit_first, are_units, is_literal_tree, are_literal_trees, has_implode}

@@ -11,7 +11,9 @@ use Rattle.px_frame.specs.Cell.{Cell, unit, rows}
 use Rattle.px_frame.specs.External.{Frame, look_in, scope_of, rows_of_frame}
 use Rattle.px_frame.specs.Frame.{slots_at}
 use Rattle.px_frame.specs.Spread.{spread, rows_beside}
-use Rattle.px_tree.specs.Node.{chosen, is_unit_cell, cell_of, map_cell, zip_cells, zip_three_cells, cast_cell, function_cell}
+use Rattle.px_tree.specs.Node.{map_cell, zip_cells, zip_three_cells, cast_cell, function_cell}
+use Rattle.px_frame.specs.Cell.{is_unit_cell, cell_of}
+use Rattle.px_column.specs.Chosen.{chosen}
 use Rattle.px_tree.specs.Nodes.{leaf_names, all_leaf_names}
 use Rattle.px_tree.specs.Partition.{is_elementwise, are_elementwise, is_row_function}
 use Rattle.px_tree.specs.Tree.{Tree, called, Trees, Literal, single, range, series, no_trees, one_tree, column, literal, alias, binary, ternary, cast, function, filter, slice, gather, sort, sort_by, agg, len, window}

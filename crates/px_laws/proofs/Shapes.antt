@@ -19,7 +19,9 @@ use Rattle.px_value.specs.declared.sort_options.SortMultipleOptions.{SortMultipl
 use Rattle.px_frame.specs.Cell.{Cell, unit, rows, list_of}
 use Rattle.px_frame.specs.External.{Frame, height, look_in, scope_of}
 use Rattle.px_frame.specs.Spread.{spread, rows_beside}
-use Rattle.px_tree.specs.Node.{chosen, is_unit_cell, cell_of, map_cell, zip_cells, zip_three_cells, literal_cell, integers, cast_cell, function_cell, filter_cell, slice_cell, one_value, offset_of, length_of, gather_cell, is_null_unit, is_index, indexed, sort_by_cell, spread_keys, reduction_cell}
+use Rattle.px_tree.specs.Node.{map_cell, zip_cells, zip_three_cells, literal_cell, integers, cast_cell, function_cell, filter_cell, slice_cell, one_value, offset_of, length_of, gather_cell, is_null_unit, is_index, indexed, sort_by_cell, spread_keys, reduction_cell}
+use Rattle.px_frame.specs.Cell.{is_unit_cell, cell_of}
+use Rattle.px_column.specs.Chosen.{chosen}
 use Rattle.px_tree.specs.Window.{window_cell, placed}
 use Rattle.px_tree.specs.Shape.{is_unit, is_unit_first, are_units, is_single, is_implode, is_literal_tree}
 use Rattle.px_tree.specs.Tree.{Tree, called, by_name, Trees, Literal, single, range, series, no_trees, one_tree, column, literal, alias, binary, ternary, cast, function, filter, slice, gather, sort, sort_by, agg, len, window}

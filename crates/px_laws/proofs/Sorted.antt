@@ -14,7 +14,9 @@ use Rattle.px_value.specs.declared.operator.Operator.{Operator}
 use Rattle.px_value.specs.declared.operator.Operator.TheVariants.{Eq, EqValidity, NotEq, NotEqValidity, Lt, LtEq, Gt, GtEq, Plus, Minus, Multiply, Divide, FloorDivide, Modulus, And, Or, Xor, LogicalAnd, LogicalOr}
 use Rattle.px_frame.specs.Cell.{Cell, unit, rows}
 use Rattle.px_frame.specs.Spread.{spread, rows_beside}
-use Rattle.px_tree.specs.Node.{chosen, is_unit_cell, cell_of, map_cell, zip_cells, zip_three_cells, cast_cell, function_cell}
+use Rattle.px_tree.specs.Node.{map_cell, zip_cells, zip_three_cells, cast_cell, function_cell}
+use Rattle.px_frame.specs.Cell.{is_unit_cell, cell_of}
+use Rattle.px_column.specs.Chosen.{chosen}
 use Rattle.px_tree.specs.Partition.{is_row_function}
 use Rattle.px_tree.specs.Typing.{made_kind, function_kind}
 use Rattle.px_tree.specs.declared.function.FunctionExpr.{FunctionExpr}

@@ -13,7 +13,8 @@ use Rattle.px_frame.specs.Cell.{Cell, unit, rows}
 use Rattle.px_frame.specs.External.{Frame, look_in, scope_of, rows_of_frame, with_field}
 use Rattle.px_frame.specs.Frame.{look, has_name, name_eq, slots_at}
 use Rattle.px_frame.specs.Schema.{FieldKind, column_field, has_field_name, is_field_name}
-use Rattle.px_tree.specs.Node.{chosen, binary_cell}
+use Rattle.px_tree.specs.Node.{binary_cell}
+use Rattle.px_column.specs.Chosen.{chosen}
 use Rattle.px_tree.specs.Nodes.{leaf_names}
 use Rattle.px_tree.specs.Partition.{is_elementwise, are_elementwise, is_row_function}
 use Rattle.px_tree.specs.Tree.{Tree, called, Literal, single, range, series, column, literal, alias, binary, ternary, cast, function, filter, slice, gather, sort, sort_by, agg, len, window}

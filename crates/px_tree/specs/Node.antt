@@ -2,6 +2,7 @@
 use Rattle.std.specs.Prelude.{ℕ, ◌+◌, ◌-◌, ℤ, pos, negsuc, ◌+ℤ◌, ◌-ℤ◌, Bool, true, false, ◌&&◌, not, List, [], ◌∷◌, Option, Some, None, Result, Ok, Err, length, map, filter, reverse, nat_lt, if◌then◌else◌}
 use Rattle.std.specs.List.{list_all, range_with_len, zip}
 use Rattle.px_column.specs.Cast.{cast_slot, cast_slots}
+use Rattle.px_column.specs.Chosen.{chosen}
 use Rattle.px_column.specs.Column.{null_count}
 use Rattle.px_column.specs.Prelude.{boolean, integer, Slot, Kind, fits, slot_at}
 use Rattle.px_column.specs.Function.{is_null_slot, is_not_null_slot, not_slot, between_slot, in_slot, shifted, present_slots, exploded, window_of}
@@ -9,6 +10,7 @@ use Rattle.px_column.specs.Operator.{operated}
 use Rattle.px_column.specs.Order.{sorted_rows, sort_keys}
 use Rattle.px_column.specs.Reduction.{reduced_slot, count_slot}
 use Rattle.px_column.specs.Result.{◌>>=◌}
+use Rattle.px_column.specs.Rows.{kept_rows}
 use Rattle.px_value.specs.declared.cast_options.CastOptions.{CastOptions}
 use Rattle.px_value.specs.declared.error.PxError.{PxError}
 use Rattle.px_value.specs.declared.error.PxError.TheVariants.{InvalidOperation, ComputeError, OutOfBounds}
@@ -18,28 +20,13 @@ use Rattle.px_value.specs.declared.method.GroupByMethod.{GroupByMethod}
 use Rattle.px_value.specs.declared.operator.Operator.{Operator}
 use Rattle.px_value.specs.declared.sort_options.SortMultipleOptions.{SortMultipleOptions}
 use Rattle.px_value.specs.declared.sort_options.SortOptions.{SortOptions}
-use Rattle.px_frame.specs.Cell.{Cell, unit, rows, list_of}
+use Rattle.px_frame.specs.Cell.{Cell, unit, rows, list_of, is_unit_cell, cell_of}
 use Rattle.px_frame.specs.Frame.{slots_at}
 use Rattle.px_frame.specs.Spread.{spread, rows_beside}
 use Rattle.px_tree.specs.Shape.{is_implode}
 use Rattle.px_tree.specs.Tree.{Literal, single, range, series}
 use Rattle.px_tree.specs.declared.function.FunctionExpr.{FunctionExpr}
 use Rattle.px_tree.specs.declared.function.FunctionExpr.TheVariants.{IsNull, IsNotNull, Not, IsBetween, IsIn, Reverse, Shift, DropNulls, NullCount, Explode}
-
--- a place holds true; a null does not
-abbrev pub is_true : Slot → Bool
-is_true (Some (boolean b)) = b
-is_true _ = false
-
--- a cell that is a unit
-abbrev pub is_unit_cell : Cell → Bool
-is_unit_cell (unit s) = true
-is_unit_cell (rows xs) = false
-
--- some rows as a unit or as a list
-abbrev pub cell_of : Bool → List Slot → Cell
-cell_of true xs = unit (slot_at xs 0)
-cell_of false xs = rows xs
 
 -- each row by itself
 abbrev pub map_cell : (Slot → Slot) → Cell → Cell
@@ -81,11 +68,6 @@ literal_cell (series s) = Ok (rows s.slots)
 abbrev pub binary_cell : Kind → Operator → Cell → Cell → Result Cell PxError
 binary_cell k op a b = zip_cells (operated k op) a b
 
--- the first where the predicate is true, else the second
-abbrev pub chosen : Slot → Slot → Slot → Slot
-chosen (Some (boolean true)) a b = a
-chosen p a b = b
-
 -- row by row one value or the other, as the predicate says
 abbrev pub ternary_cell : Cell → Cell → Cell → Result Cell PxError
 ternary_cell p a b = zip_three_cells chosen p a b
@@ -112,10 +94,6 @@ function_cell DropNulls k (c ∷ []) = Ok (rows (present_slots (list_of c)))
 function_cell NullCount k (c ∷ []) = Ok (unit (count_slot (null_count (list_of c))))
 function_cell Explode k (c ∷ []) = Ok (rows (exploded (list_of c)))
 function_cell _ k cells = Err (InvalidOperation Types)
-
--- the rows whose mask is true
-abbrev pub kept_rows : List Slot → List Slot → List Slot
-kept_rows mask xs = map (λ p. p.1) (filter (λ p. is_true p.0) (zip mask xs))
 
 -- the rows whose mask is true; a unit mask stands for every row
 abbrev pub filter_cell : Cell → Cell → Result Cell PxError

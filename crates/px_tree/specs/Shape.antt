@@ -114,6 +114,30 @@ abbrev mutual
   has_implode_order no_order = false
   has_implode_order (ordered t options) = has_implode t
 
+abbrev mutual
+  -- whether a window stands in an expression
+  pub has_window : Tree → Bool
+  has_window (column n) = false
+  has_window (literal v) = false
+  has_window (alias e n) = has_window e
+  has_window (binary l op r) = has_window l || has_window r
+  has_window (ternary p a b) = has_window p || (has_window a || has_window b)
+  has_window (cast e k options) = has_window e
+  has_window (function es f) = have_window es
+  has_window (filter e by) = has_window e || has_window by
+  has_window (slice e offset length) = has_window e || (has_window offset || has_window length)
+  has_window (gather e idx one) = has_window e || has_window idx
+  has_window (sort e options) = has_window e
+  has_window (sort_by e by options) = has_window e || have_window by
+  has_window (agg m e) = has_window e
+  has_window len = false
+  has_window (window f keys order mapping) = true
+
+  -- whether a window stands in one of some expressions
+  pub have_window : Trees → Bool
+  have_window no_trees = false
+  have_window (one_tree t ts) = has_window t || have_window ts
+
 -- a column and a literal column have their own names, a single value and a range are named literal
 abbrev pub literal_name : Literal → List ℕ
 literal_name (single k s) = codes "literal"

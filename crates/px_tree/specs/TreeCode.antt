@@ -64,7 +64,7 @@ call_round (by_name f) = refl
 call_round as_explode = refl
 
 -- calls are told apart by their names
-abbrev coded_call : Coded Call
+abbrev pub coded_call : Coded Call
 coded_call = code_by (Option FunctionExpr) (coded_option function_expr.the_row.coded) call_name call_back call_round
 
 -- a node without its children; the plain ones hold nothing else

@@ -4,6 +4,8 @@
 use Rattle.std.specs.Prelude.{ℕ, Bool, true, false, ◌&&◌, ◌||◌, not, List, [], ◌∷◌, ◌++◌, Option, Some, None, Result, Ok, Err, find, option_map, is_none, if◌then◌else◌}
 use Rattle.std.specs.List.{list_any}
 use Rattle.px_column.specs.Cast.{cast_kind}
+use Rattle.px_column.specs.Exploded.{element_kind}
+use Rattle.px_column.specs.Interval.{compared_kind}
 use Rattle.px_column.specs.Option.{◌>>=◌}
 use Rattle.px_column.specs.Prelude.{Kind, booleans, int32s, int64s, uint32s, nulls, lists, kind_eq, is_list_kind}
 use Rattle.px_column.specs.Operator.{operator_kind, is_integer_kind, is_boolean_kind, kind_where}
@@ -48,15 +50,6 @@ is_range_kind _ = false
 abbrev pub is_integer_or_null : Kind → Bool
 is_integer_or_null nulls = true
 is_integer_or_null k = is_integer_kind k
-
--- no list is compared, and all have the first one's type
-abbrev pub compared_kind : Kind → List Kind → Result Kind PxError
-compared_kind k ks = if list_any is_list_kind (k ∷ ks) then Err (InvalidOperation ListKey) else kind_where (not (list_any (λ j. not (kind_eq k j)) ks)) booleans
-
--- the type of the values in lists of a type
-abbrev pub element_kind : Kind → Result Kind PxError
-element_kind (lists k) = Ok k
-element_kind _ = Err (InvalidOperation Types)
 
 -- the type of a function of inputs of these types: their number is tested first
 abbrev pub function_kind : FunctionExpr → List Kind → Result Kind PxError

@@ -1,6 +1,7 @@
 //! Expressions and steps, their names, and what they mean on a frame.
 #![tactic(auto)]
 
+mod built;
 mod context;
 mod copy;
 mod expr;
@@ -9,7 +10,9 @@ mod literal;
 mod naming;
 mod step;
 mod window;
+mod windows;
 
+pub use built::{are_built, is_built};
 pub use context::Context;
 pub use expr::{AggExpr, Expr, Exprs};
 pub use function::FunctionExpr;
@@ -17,3 +20,4 @@ pub use literal::{LiteralValue, is_range_type};
 pub use naming::output_name;
 pub use step::Step;
 pub use window::{WindowMapping, WindowType};
+pub use windows::has_window;

@@ -18,7 +18,8 @@ use Rattle.px_column.specs.Result.{◌>>=◌}
 use Rattle.px_typing.specs.Facts.{Facts, kinds_of, have_list, all_units, all_literals, any_implode, is_first_unit, is_scalar, column_facts, binary_facts, ternary_facts, cast_facts, only_input, compared_facts, compared_all, filter_facts, slice_facts, gather_facts, sort_facts, sort_by_facts, agg_facts, len_facts, window_facts, facts_in, all_facts_in, order_facts_in, kind_found}
 use Rattle.px_tree.specs.Shape.{is_unit, is_unit_first, are_units, is_literal_tree, are_literal_trees, is_literal_order, has_implode, have_implode, has_implode_order, is_implode}
 use Rattle.px_tree.specs.Tree.{Tree, called, by_name, Trees, Order, Literal, single, range, series, no_trees, one_tree, no_order, ordered, column, literal, alias, binary, ternary, cast, function, filter, slice, gather, sort, sort_by, agg, len, window}
-use Rattle.px_tree.specs.Typing.{Scope, kind_in, kinds_in, kind_of_name, is_range_kind, is_integer_or_null, function_kind, window_kind, made_kind, refused_where, on_groups, refusal_of, fails, refusal_of_one, refusal_of_two, refusal_of_all, has_list_kind, implode_refusal, no_key_refusal, order_kind, not_list, or_first, refusals_of, all_refusals_of, order_refusals_of, compared_kind, first_or_kind, type_of, is_on_groups}
+use Rattle.px_tree.specs.Typing.{Scope, kind_in, kinds_in, kind_of_name, is_range_kind, is_integer_or_null, function_kind, window_kind, made_kind, refused_where, on_groups, refusal_of, fails, refusal_of_one, refusal_of_two, refusal_of_all, has_list_kind, implode_refusal, no_key_refusal, order_kind, not_list, or_first, refusals_of, all_refusals_of, order_refusals_of, first_or_kind, type_of, is_on_groups}
+use Rattle.px_column.specs.Interval.{compared_kind}
 use Rattle.px_tree.specs.declared.context.Context.{Context}
 use Rattle.px_tree.specs.declared.context.Context.TheVariants.{Default, Aggregation}
 use Rattle.px_tree.specs.declared.function.FunctionExpr.{FunctionExpr}

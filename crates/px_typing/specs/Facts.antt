@@ -14,7 +14,8 @@ use Rattle.px_value.specs.declared.method.GroupByMethod.{GroupByMethod}
 use Rattle.px_value.specs.declared.operator.Operator.{Operator}
 use Rattle.px_tree.specs.Shape.{is_single, is_implode}
 use Rattle.px_tree.specs.Tree.{Tree, called, Trees, Order, Literal, range, no_trees, one_tree, no_order, ordered, column, literal, alias, binary, ternary, cast, function, filter, slice, gather, sort, sort_by, agg, len, window}
-use Rattle.px_tree.specs.Typing.{Scope, kind_of_name, literal_kind, is_range_kind, is_integer_or_null, compared_kind, function_kind, window_kind, is_on_groups}
+use Rattle.px_tree.specs.Typing.{Scope, kind_of_name, literal_kind, is_range_kind, is_integer_or_null, function_kind, window_kind, is_on_groups}
+use Rattle.px_column.specs.Interval.{compared_kind}
 use Rattle.px_tree.specs.declared.context.Context.{Context}
 use Rattle.px_tree.specs.declared.context.Context.TheVariants.{Default, Aggregation}
 use Rattle.px_tree.specs.declared.function.FunctionExpr.{FunctionExpr}

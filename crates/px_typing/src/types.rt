@@ -1,7 +1,8 @@
 //! The types that operations take, and the types of their results.
 ghost use Rattle.std.specs.Prelude.{◌≡◌, [], ◌∷◌, Ok};
 ghost use Rattle.px_column.specs.Prelude.{AnswersBy, kind_of};
-ghost use Rattle.px_tree.specs.Typing.{is_integer_or_null, element_kind, function_kind, window_kind};
+ghost use Rattle.px_tree.specs.Typing.{is_integer_or_null, function_kind, window_kind};
+ghost use Rattle.px_column.specs.Exploded.{element_kind};
 
 use px_column::{DataType, InvalidWhy, Px, PxError, is_boolean, is_integer, type_where};
 use px_tree::{FunctionExpr, WindowMapping};
