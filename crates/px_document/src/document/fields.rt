@@ -74,6 +74,28 @@ pub(crate) fn three_fields<'v>(
     Some((value.get(first)?, value.get(second)?, value.get(third)?))
 }
 
+/// The values of an object whose only keys are these four.
+pub(crate) fn four_fields<'v>(
+    value: &'v Value,
+    first: &str,
+    second: &str,
+    third: &str,
+    fourth: &str,
+) -> Option<(&'v Value, &'v Value, &'v Value, &'v Value)>
+    ensures { option_map (λ p. view p.0.now ∷ view p.1.now ∷ view p.2.now ∷ view p.3.now ∷ []) result
+        ≡ fields (first.now ∷ second.now ∷ third.now ∷ fourth.now ∷ []) (view value.now) }
+{
+    if !has_members(value, 4) {
+        return None;
+    }
+    Some((
+        value.get(first)?,
+        value.get(second)?,
+        value.get(third)?,
+        value.get(fourth)?,
+    ))
+}
+
 /// A text, copied.
 pub(crate) fn read_text(alloc: Global, value: &Value) -> Result<Name, DocumentFault>
     ensures { Reads result (as_str (view value.now)) }

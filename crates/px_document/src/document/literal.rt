@@ -112,7 +112,8 @@ fn read_single(alloc: Global, value: &Value) -> Result<LiteralValue, DocumentFau
     single_of(&dtype, place).ok_or(DocumentFault::BadDocument)
 }
 
-fn read_int64(value: &Value) -> Result<i64, DocumentFault>
+/// An integer of 64 bits.
+pub(crate) fn read_int64(value: &Value) -> Result<i64, DocumentFault>
     ensures { Reads result (int64_of (view value.now)) }
 {
     value.as_i64().ok_or(DocumentFault::BadDocument)
