@@ -1,0 +1,9 @@
+pub mod Answering
+pub mod Alongside
+pub mod Operated
+pub mod Casted
+pub mod Kept
+pub mod Functions
+pub mod Numbers
+pub mod Gathered
+pub mod Ordering
