@@ -1,5 +1,5 @@
--- How deep an expression is, whether a window stands in it, and the limit that a text sets.
-use Rattle.std.specs.Prelude.{ℕ, zero, suc, ◌+◌, ◌^◌, Bool, true, false, ◌||◌, max, nat_le, nat_lt, List, Option, Some, None, Result, Ok, Err, if◌then◌else◌}
+-- How deep an expression is, and the limit that a text sets.
+use Rattle.std.specs.Prelude.{ℕ, zero, suc, ◌+◌, ◌^◌, Bool, true, false, max, nat_le, nat_lt, List, Option, Some, None, Result, Ok, Err, if◌then◌else◌}
 use Rattle.std.specs.Str.Parse.{without_leading_plus}
 use Rattle.px_column.specs.Cast.{natural_of}
 use Rattle.px_value.specs.declared.error.PxError.{PxError}
@@ -35,30 +35,6 @@ abbrev mutual
   pub order_depth_of : Order → ℕ
   order_depth_of no_order = 0
   order_depth_of (ordered t options) = depth_of t
-
--- whether a window stands in an expression
-abbrev mutual
-  pub has_window : Tree → Bool
-  has_window (column n) = false
-  has_window (literal v) = false
-  has_window (alias e n) = has_window e
-  has_window (binary l op r) = has_window l || has_window r
-  has_window (ternary p a b) = has_window p || (has_window a || has_window b)
-  has_window (cast e k options) = has_window e
-  has_window (function es f) = have_window es
-  has_window (filter e by) = has_window e || has_window by
-  has_window (slice e offset length) = has_window e || (has_window offset || has_window length)
-  has_window (gather e idx one) = has_window e || has_window idx
-  has_window (sort e options) = has_window e
-  has_window (sort_by e by options) = has_window e || have_window by
-  has_window (agg m e) = has_window e
-  has_window len = false
-  has_window (window f keys order mapping) = true
-
-  -- whether a window stands in one of some expressions
-  pub have_window : Trees → Bool
-  have_window no_trees = false
-  have_window (one_tree t ts) = has_window t || have_window ts
 
 -- whether an expression is as deep as a limit; 0 is no limit
 abbrev pub is_too_deep : ℕ → Tree → Bool

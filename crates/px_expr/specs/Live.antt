@@ -7,9 +7,10 @@ use Rattle.px_value.specs.declared.error.PxError.{PxError}
 use Rattle.px_frame.specs.Frame.{name_eq}
 use Rattle.px_frame.specs.Schema.{FieldKind}
 use Rattle.px_tree.specs.Shape.{name_of}
-use Rattle.px_tree.specs.Tree.{Tree, by_name, Trees, Order, no_trees, one_tree, no_order, ordered, column, literal, alias, binary, ternary, cast, function, filter, slice, gather, sort, sort_by, agg, len, window}
+use Rattle.px_tree.specs.Tree.{Tree, called, Trees, Order, no_trees, one_tree, no_order, ordered, column, literal, alias, binary, ternary, cast, function, filter, slice, gather, sort, sort_by, agg, len, window}
 use Rattle.px_tree.specs.Typing.{Scope, type_of}
 use Rattle.px_tree.specs.declared.context.Context.TheVariants.{Default}
+use Rattle.px_tree.specs.declared.function.FunctionExpr.{FunctionExpr}
 use Rattle.px_tree.specs.declared.function.FunctionExpr.TheVariants.{IsNull, IsNotNull, Not}
 
 -- the expression that a node gives: none for a reduction, and for an alias the one that it stands over
@@ -32,6 +33,13 @@ is_literal_node (literal v) = true
 is_literal_node (alias e n) = is_literal_node e
 is_literal_node _ = false
 
+-- a function of one input that can be evaluated on chunks of rows
+abbrev pub is_partitioned_function : FunctionExpr → Bool
+is_partitioned_function IsNull = true
+is_partitioned_function IsNotNull = true
+is_partitioned_function Not = true
+is_partitioned_function _ = false
+
 -- an expression whose kind can be evaluated on chunks of rows, whose partial results are merged
 abbrev pub is_partitioned : Tree → Bool
 is_partitioned (agg m e) = true
@@ -42,9 +50,7 @@ is_partitioned (column n) = true
 is_partitioned len = true
 is_partitioned (literal v) = true
 is_partitioned (ternary p a b) = true
-is_partitioned (function (one_tree e no_trees) (by_name IsNull)) = true
-is_partitioned (function (one_tree e no_trees) (by_name IsNotNull)) = true
-is_partitioned (function (one_tree e no_trees) (by_name Not)) = true
+is_partitioned (function (one_tree e no_trees) f) = is_partitioned_function (called f)
 is_partitioned _ = false
 
 -- the names of the columns that an expression reads, in the order of visit, and the names that its aliases give; a window

@@ -1,18 +1,22 @@
 -- What contracts see of a node of any kind.
-use Rattle.std.specs.Prelude.{[], ◌∷◌}
-use Rattle.px_tree.specs.Tree.{agg}
-use Rattle.px_expr.specs.Planned.{Planned, PlannedReduction}
-use Rattle.px_expr.specs.declared.node.PhysExpr.{PhysExpr}
-use Rattle.px_expr.specs.declared.node.PhysExpr.TheVariants.{Column, Literal, Alias, Aggregation, Count}
-
--- a reduction as its expression
-abbrev pub reduction_plan : PlannedReduction → Planned
-reduction_plan r = record { tree = agg r.method r.input.tree; columns = r.input.columns }
+use Rattle.px_expr.specs.Parts.{binary_plan, ternary_plan, cast_plan, apply_plan, filter_plan, slice_plan, gather_plan, sort_plan, sort_by_plan, reduction_plan}
+use Rattle.px_expr.specs.Planned.{Planned}
+use Rattle.px_expr.specs.declared.phys_expr.PhysExpr.{PhysExpr}
+use Rattle.px_expr.specs.declared.phys_expr.PhysExpr.TheVariants.{Column, Literal, Alias, Binary, Ternary, Cast, Apply, Filter, Slice, Gather, Sort, SortBy, Aggregation, Count}
 
 -- a node of any kind as its expression
 abbrev pub plan_of : PhysExpr → Planned
 plan_of (Column e) = e
 plan_of (Literal e) = e
 plan_of (Alias e) = e
+plan_of (Binary e) = binary_plan e
+plan_of (Ternary e) = ternary_plan e
+plan_of (Cast e) = cast_plan e
+plan_of (Apply e) = apply_plan e
+plan_of (Filter e) = filter_plan e
+plan_of (Slice e) = slice_plan e
+plan_of (Gather e) = gather_plan e
+plan_of (Sort e) = sort_plan e
+plan_of (SortBy e) = sort_by_plan e
 plan_of (Aggregation e) = reduction_plan e
 plan_of (Count e) = e

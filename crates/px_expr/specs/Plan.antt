@@ -6,11 +6,12 @@ use Rattle.px_value.specs.declared.error.PxError.{PxError}
 use Rattle.px_arena.specs.Arena.{tree_at}
 use Rattle.px_arena.specs.Named.{NamedNode}
 use Rattle.px_tree.specs.Nodes.{leaf_names}
-use Rattle.px_tree.specs.Tree.{Tree, alias}
+use Rattle.px_tree.specs.Tree.{Tree, Trees, no_trees, one_tree, alias}
 use Rattle.px_tree.specs.Typing.{Scope, type_of}
 use Rattle.px_tree.specs.declared.context.Context.{Context}
 use Rattle.px_tree.specs.Built.{is_built_tree}
-use Rattle.px_expr.specs.Depth.{has_window, is_too_deep}
+use Rattle.px_tree.specs.Shape.{has_window}
+use Rattle.px_expr.specs.Depth.{is_too_deep}
 use Rattle.px_expr.specs.Planned.{Planned}
 use Rattle.px_expr.specs.declared.conversion.ExpressionConversionState.{ExpressionConversionState}
 
@@ -22,6 +23,11 @@ under (Some n) e = alias e n
 -- an expression whose column nodes were all planned over one schema
 abbrev pub planned_over : Scope → Tree → Planned
 planned_over scope e = record { tree = e; columns = map (λ n. record { name = n; schema = scope }) (leaf_names e) }
+
+-- some expressions in their order, whose column nodes were all planned over one schema
+abbrev pub all_planned_over : Scope → Trees → List Planned
+all_planned_over scope no_trees = []
+all_planned_over scope (one_tree t ts) = planned_over scope t ∷ all_planned_over scope ts
 
 -- the node of an expression, under a name if any, where it is not refused over the schema in its place
 abbrev pub plan_in : Option (List ℕ) → Tree → Scope → Context → Result Planned PxError

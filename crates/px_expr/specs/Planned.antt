@@ -1,10 +1,8 @@
 -- What contracts see of a node: the tree of its expression, and the columns that it names with the schemas they were planned over.
 use Rattle.std.specs.Prelude.{ℕ, Bool, ◌&&◌, List, Option, length, take, drop, codes, find, is_none, if◌then◌else◌, refl}
 use Rattle.std.specs.Str.{bytes_eq}
-use Rattle.std.specs.Coded.{Coded, code_by, coded×, coded_list, coded_ℕ, coded_option}
+use Rattle.std.specs.Coded.{Coded, code_by, coded×, coded_list, coded_ℕ}
 use Rattle.px_column.specs.Prelude.{Series}
-use Rattle.px_value.specs.declared.method.GroupByMethod.{GroupByMethod}
-use Rattle.px_value.specs.contracts.method.GroupByMethod as method
 use Rattle.px_frame.specs.External.{Frame, look_in}
 use Rattle.px_frame.specs.Frame.{look}
 use Rattle.px_frame.specs.Schema.{FieldKind, coded_field, has_field_name}
@@ -28,16 +26,6 @@ coded_column = code_by (List ℕ × List FieldKind) (coded× (coded_list coded_�
 -- the code of an expression and its column nodes
 abbrev pub coded_planned : Coded Planned
 coded_planned = code_by (Tree × List PlannedColumn) (coded× coded_tree (coded_list coded_column)) (λ p. (p.tree, p.columns)) (λ p. record { tree = p.0; columns = p.1 }) (λ _. refl)
-
--- a reduction: its input, how it reduces, and the field that it was told, which changes nothing
-pub record PlannedReduction : Type 0 where
-  pub input : Planned
-  pub method : GroupByMethod
-  pub field : Option FieldKind
-
--- the code of a reduction
-abbrev pub coded_reduction : Coded PlannedReduction
-coded_reduction = code_by (Planned × (GroupByMethod × Option FieldKind)) (coded× coded_planned (coded× method.the_row.coded (coded_option coded_field))) (λ r. (r.input, (r.method, r.field))) (λ p. record { input = p.0; method = p.1.0; field = p.1.1 }) (λ _. refl)
 
 -- the names that a plan keeps for columns which it adds itself begin so
 abbrev pub reserved_prefix : List ℕ

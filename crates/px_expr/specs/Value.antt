@@ -6,22 +6,18 @@ use Rattle.px_column.specs.Prelude.{Series}
 use Rattle.px_value.specs.declared.error.PxError.{PxError}
 use Rattle.px_value.specs.declared.error.PxError.TheVariants.{ColumnNotFound, Duplicate, InvalidOperation, ComputeError, OutOfBounds, ShapeMismatch, SchemaMismatch, OutOfMemory}
 use Rattle.px_value.specs.declared.error.ComputeWhy.TheVariants.{TooLong}
-use Rattle.px_frame.specs.Cell.{list_of}
 use Rattle.px_frame.specs.External.{Frame, scope_of}
 use Rattle.px_frame.specs.Schema.{FieldKind}
-use Rattle.px_frame.specs.Spread.{NamedCell}
-use Rattle.px_tree.specs.Node.{cell_of}
+use Rattle.px_frame.specs.Spread.{NamedCell, column_of_cell}
+use Rattle.px_frame.specs.Cell.{cell_of, is_unit_cell}
 use Rattle.px_tree.specs.Shape.{is_unit, name_of}
-use Rattle.px_tree.specs.Size.{size_on}
+use Rattle.px_tree.specs.Size.{size_on, sizes_on}
 use Rattle.px_tree.specs.Tree.{Tree}
 use Rattle.px_tree.specs.Typing.{Scope, kind_in, refusals_of, refused_where}
 use Rattle.px_tree.specs.Value.{value_on, named, faults_on, has_misfit}
 use Rattle.px_tree.specs.declared.context.Context.TheVariants.{Default}
+use Rattle.px_expr.specs.Parts.{plan_trees}
 use Rattle.px_expr.specs.Planned.{Planned, PlannedColumn, found_by}
-
--- a value under its name and type as a column; a unit is one row
-abbrev pub column_of_cell : NamedCell → Series
-column_of_cell c = record { name = c.name; kind = c.kind; slots = list_of c.cell }
 
 -- an expression's value on a frame as a column
 abbrev pub column_on : Tree → Frame → Option Series
@@ -60,3 +56,24 @@ abbrev pub IsCause : PxError → Planned → Frame → Type 0
 IsCause OutOfMemory p frame = Unit {0}
 IsCause (ComputeError TooLong) p frame = 2 ^ 32 ≤ size_on p.tree (frame ∷ [])
 IsCause e p frame = IsOneOf e (causes_on p frame)
+
+-- a cell is the value of an expression on a frame: nothing is there that is refused or a fault, and it has the expression's
+-- name, type and shape
+pub record IsCellOf (p : Planned) (frame : Frame) (c : NamedCell) : Type 0 where
+  pub sound : causes_on p frame ≡ []
+  pub name : c.name ≡ name_of p.tree
+  pub kind : kind_in p.tree (scope_of frame) ≡ Some c.kind
+  pub value : value_on p.tree frame ≡ Some c.cell
+  pub shape : is_unit_cell c.cell ≡ is_unit p.tree
+
+-- some cells are the values of some expressions, in their order
+abbrev pub AreCellsOf : List Planned → Frame → List NamedCell → Type 0
+AreCellsOf [] frame [] = Unit {0}
+AreCellsOf (p ∷ ps) frame (c ∷ cs) = IsCellOf p frame c × AreCellsOf ps frame cs
+AreCellsOf _ frame _ = ⊥
+
+-- why some expressions may have no values: it is why one of them has none
+abbrev pub IsCauseOfAny : PxError → List Planned → Frame → Type 0
+IsCauseOfAny OutOfMemory ps frame = Unit {0}
+IsCauseOfAny (ComputeError TooLong) ps frame = 2 ^ 32 ≤ sizes_on (plan_trees ps) (frame ∷ [])
+IsCauseOfAny e ps frame = IsOneOf e (flat_map (λ p. causes_on p frame) ps)

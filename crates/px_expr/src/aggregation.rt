@@ -1,16 +1,99 @@
 //! Reductions.
-use crate::node::AggregationExpr;
+ghost use Rattle.std.specs.Prelude.{◌≡◌, option_map};
+ghost use Rattle.px_frame.specs.SchemaView.{field_kind};
+ghost use Rattle.px_expr.specs.NodeView.{plan_of};
+
+use crate::phys_expr::{PhysExpr, evaluate_cell};
 use crate::physical::PhysicalExpr;
 use indexmap::IndexSet;
 use px_column::{Column, GroupByMethod, Name, Px, Steps, reduced_type};
 use px_frame::{DataFrame, Field, Schema};
+use px_nodes::aggregation_cells;
 use px_plan::Expr;
 use px_window::ExecutionState;
 use std::alloc::Global;
+use std::marker::Model;
 use std::sync::ledger::Ledger;
 
+/// How a reduction reduces (polars `AggregationType`).
+#[derive(Clone, Copy, Debug, PartialEq, Eq)]
+pub struct AggregationType {
+    /// The reduction.
+    pub groupby: GroupByMethod,
+}
+
+/// A reduction (polars `AggregationExpr`).
+#[cycle(node)]
+#[derive(Drop)]
+pub struct AggregationExpr {
+    expr: Box<PhysExpr>,
+    agg_type: AggregationType,
+    field: Option<Field>,
+}
+
+impl Model for AggregationExpr {
+    ghost use Rattle.px_expr.specs.Parts.{PlannedReduction, coded_reduction};
+
+    ghost Value = { PlannedReduction };
+
+    ghost coded = { coded_reduction };
+
+    ghost use Rattle.std.specs.Prelude.{option_map};
+    ghost use Rattle.px_frame.specs.SchemaView.{field_kind};
+    ghost use Rattle.px_expr.specs.NodeView.{plan_of};
+    ghost use Rattle.px_expr.specs.Size.{reduction_size};
+
+    ghost view = { λ a. record { input = plan_of a.expr.value; method = a.agg_type.groupby; field = option_map field_kind a.field } };
+
+    ghost size = { reduction_size };
+
+    ghost use Rattle.px_expr.specs.Deep.{falls_reduction};
+
+    ghost size_decreases = { falls_reduction };
+}
+
+impl AggregationExpr {
+    /// A reduction of a node; the field is a hint, which changes nothing.
+    pub fn new(
+        expr: Box<PhysExpr>,
+        agg_type: AggregationType,
+        field: Option<Field>,
+    ) -> AggregationExpr
+        ensures input { result.input ≡ plan_of expr.value }
+        ensures method { result.method ≡ agg_type.groupby }
+        ensures field { result.field ≡ option_map field_kind field }
+    {
+        AggregationExpr {
+            expr,
+            agg_type,
+            field,
+        }
+    }
+
+    /// The node that is reduced.
+    pub fn expr(&self) -> &PhysExpr
+        ensures { plan_of result.now ≡ self.now.input }
+    {
+        &self.expr
+    }
+
+    /// How it is reduced.
+    pub fn agg_type(&self) -> &AggregationType
+        ensures { result.now.groupby ≡ self.now.method }
+    {
+        &self.agg_type
+    }
+
+    /// The field that the node was told.
+    pub fn field(&self) -> &Option<Field>
+        ensures { option_map field_kind result.now ≡ self.now.field }
+    {
+        &self.field
+    }
+}
+
 impl PhysicalExpr for AggregationExpr {
-    ghost use Rattle.px_expr.specs.NodeView.{reduction_plan};
+    ghost use Rattle.px_expr.specs.Parts.{reduction_plan};
 
     ghost planned = { reduction_plan };
 
@@ -18,6 +101,7 @@ impl PhysicalExpr for AggregationExpr {
         None
     }
 
+    #[tactic(auto, using(crate::proofs::Reductions::reduction_value, crate::proofs::Reductions::reduction_cause, crate::proofs::Reductions::reduced_cause, crate::proofs::Counts::reduction_ticks, crate::proofs::Counts::reduction_cost, crate::proofs::Counts::reduction_cost_input))]
     #[cycle(evaluate)]
     fn evaluate<L: Ledger, M: Ledger>(
         &self,
@@ -27,8 +111,8 @@ impl PhysicalExpr for AggregationExpr {
         kernels: &mut Steps<L>,
         groupings: &mut Steps<M>,
     ) -> Px<Column> {
-        let input = self.expr.evaluate(alloc, df, state, kernels, groupings)?;
-        input.reduce(alloc, self.agg_type.groupby, kernels)
+        let input = evaluate_cell(alloc, &self.expr, df, state, kernels, groupings)?;
+        Ok(aggregation_cells(alloc, input, self.agg_type.groupby, kernels)?.into_column())
     }
 
     fn evaluate_inline(&self, alloc: Global) -> Px<Option<Column>> {

@@ -1,5 +1,11 @@
 //! Nodes under other names.
-use crate::node::AliasExpr;
+ghost use Rattle.std.specs.Prelude.{◌≡◌};
+ghost use Rattle.px_tree.specs.Shape.{name_of};
+ghost use Rattle.px_tree.specs.Tree.{alias};
+ghost use Rattle.px_tree.specs.View.{tree};
+ghost use Rattle.px_expr.specs.NodeView.{plan_of};
+
+use crate::phys_expr::PhysExpr;
 use crate::physical::PhysicalExpr;
 use indexmap::IndexSet;
 use px_column::{Column, Name, Px, Steps};
@@ -7,7 +13,78 @@ use px_frame::{DataFrame, Field, Schema};
 use px_plan::Expr;
 use px_window::ExecutionState;
 use std::alloc::Global;
+use std::marker::Model;
 use std::sync::ledger::Ledger;
+
+/// A node under another name (polars `AliasExpr`).
+#[cycle(node)]
+#[derive(Drop)]
+pub struct AliasExpr {
+    physical_expr: Box<PhysExpr>,
+    name: Name,
+    expr: Expr,
+}
+
+impl Model for AliasExpr {
+    ghost use Rattle.px_expr.specs.Planned.{Planned, coded_planned};
+
+    ghost Value = { Planned };
+
+    ghost coded = { coded_planned };
+
+    ghost use Rattle.std.specs.Prelude.{◌≡◌};
+    ghost use Rattle.px_tree.specs.Tree.{alias};
+    ghost use Rattle.px_tree.specs.View.{tree};
+    ghost use Rattle.px_expr.specs.NodeView.{plan_of};
+    ghost use Rattle.px_expr.specs.Size.{plan_size};
+
+    ghost view = { λ a. record { tree = alias (plan_of a.physical_expr.value).tree a.name; columns = (plan_of a.physical_expr.value).columns } };
+
+    ghost invariant = { λ a. tree a.expr ≡ (plan_of a.physical_expr.value).tree };
+
+    ghost size = { plan_size };
+
+    ghost use Rattle.px_expr.specs.Deep.{falls_alias};
+
+    ghost size_decreases = { falls_alias };
+}
+
+impl AliasExpr {
+    /// A node under this name; the expression is the node's.
+    pub fn new(physical_expr: Box<PhysExpr>, name: Name, expr: Expr) -> AliasExpr
+        requires { tree expr ≡ (plan_of physical_expr.value).tree }
+        ensures tree { result.tree ≡ alias (plan_of physical_expr.value).tree name }
+        ensures columns { result.columns ≡ (plan_of physical_expr.value).columns }
+    {
+        AliasExpr {
+            physical_expr,
+            name,
+            expr,
+        }
+    }
+
+    /// The node that has the other name.
+    pub fn physical_expr(&self) -> &PhysExpr
+        ensures tree { self.now.tree ≡ alias (plan_of result.now).tree (name_of self.now.tree) }
+        ensures columns { self.now.columns ≡ (plan_of result.now).columns }
+    {
+        &self.physical_expr
+    }
+
+    /// The name.
+    pub fn name(&self) -> &Name
+        ensures { name_of self.now.tree ≡ result.now }
+    {
+        &self.name
+    }
+
+    /// The expression that has the other name.
+    pub fn expr(&self) -> &Expr
+        ensures { self.now.tree ≡ alias (tree result.now) (name_of self.now.tree) }
+    {
+        &self.expr
+    }
+}
 
 impl PhysicalExpr for AliasExpr {
     ghost planned = { λ a. a };

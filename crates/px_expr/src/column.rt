@@ -1,17 +1,20 @@
 //! The column of a name.
-ghost use Rattle.std.specs.Prelude.{◌≡◌, IfSome, Some, drop, option_map};
+ghost use Rattle.std.specs.Prelude.{◌≡◌, [], ◌∷◌, IfSome, Some, drop, option_map};
+ghost use Rattle.px_tree.specs.Shape.{is_literal_tree, name_of};
+ghost use Rattle.px_tree.specs.Tree.{column};
+ghost use Rattle.px_tree.specs.View.{tree};
 ghost use Rattle.px_frame.specs.External.{alone};
 ghost use Rattle.px_frame.specs.Frame.{look};
 ghost use Rattle.px_expr.specs.Planned.{found_by, is_added, is_reserved};
 
-use crate::node::ColumnExpr;
 use crate::physical::PhysicalExpr;
 use indexmap::IndexSet;
 use px_column::{Column, Name, Px, PxError, Steps};
-use px_frame::{DataFrame, Field, Schema};
+use px_frame::{DataFrame, Field, Schema, SchemaRef};
 use px_plan::Expr;
 use px_window::ExecutionState;
 use std::alloc::Global;
+use std::marker::Model;
 use std::sync::ledger::Ledger;
 
 /// The names that a plan keeps for columns which it adds itself begin so.
@@ -49,6 +52,70 @@ fn found_column<'a>(df: &'a DataFrame, name: &Name, schema: &Schema) -> Option<&
         column_behind(df.get_columns(), schema.len(), name)
     } else {
         df.column(name)
+    }
+}
+
+/// The column of a name (polars `ColumnExpr`).
+#[derive(Drop)]
+pub struct ColumnExpr {
+    name: Name,
+    expr: Expr,
+    schema: SchemaRef,
+}
+
+impl Model for ColumnExpr {
+    ghost use Rattle.px_expr.specs.Planned.{Planned, coded_planned};
+
+    ghost Value = { Planned };
+
+    ghost coded = { coded_planned };
+
+    ghost use Rattle.std.specs.Prelude.{◌≡◌, [], ◌∷◌};
+    ghost use Rattle.px_tree.specs.Tree.{column};
+    ghost use Rattle.px_tree.specs.View.{tree};
+
+    ghost view = { λ a. record { tree = column a.name; columns = record { name = a.name; schema = a.schema.value } ∷ [] } };
+
+    ghost invariant = { λ a. tree a.expr ≡ column a.name };
+}
+
+impl ColumnExpr {
+    /// The column of this name, planned over a schema; the expression is that column.
+    pub fn new(name: Name, expr: Expr, schema: SchemaRef) -> ColumnExpr
+        requires { tree expr ≡ column name }
+        ensures tree { result.tree ≡ column name }
+        ensures columns { result.columns ≡ record { name = name; schema = schema.value } ∷ [] }
+    {
+        ColumnExpr { name, expr, schema }
+    }
+
+    /// The name.
+    pub fn name(&self) -> &Name
+        ensures { self.now.tree ≡ column result.now }
+    {
+        &self.name
+    }
+
+    /// The expression.
+    pub fn expr(&self) -> &Expr
+        ensures { tree result.now ≡ self.now.tree }
+    {
+        &self.expr
+    }
+
+    /// The schema that the node was planned over.
+    pub fn schema(&self) -> &SchemaRef
+        ensures { self.now.columns ≡ record { name = name_of self.now.tree; schema = result.now.value } ∷ [] }
+    {
+        &self.schema
+    }
+
+    /// Whether it is a literal.
+    pub(crate) fn has_literals_alone(&self) -> bool
+        ensures { result ≡ is_literal_tree self.now.tree }
+    {
+        let _ = &self.expr;
+        false
     }
 }
 

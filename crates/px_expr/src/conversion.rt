@@ -4,9 +4,9 @@ ghost use Rattle.px_tree.specs.View.{tree};
 ghost use Rattle.px_expr.specs.Depth.{depth_limit_of, written_depth_limit};
 ghost use Rattle.px_expr.specs.Plan.{noted};
 
-use crate::depth::{has_window, is_too_deep};
+use crate::depth::is_too_deep;
 use px_column::{ComputeWhy, Px, PxError};
-use px_plan::Expr;
+use px_plan::{Expr, has_window};
 use std::default::Default;
 
 /// What is noted while expressions are planned (polars `ExpressionConversionState`).

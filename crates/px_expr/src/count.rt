@@ -1,5 +1,9 @@
 //! The number of rows.
-use crate::node::CountExpr;
+ghost use Rattle.std.specs.Prelude.{◌≡◌, []};
+ghost use Rattle.px_tree.specs.Shape.{is_literal_tree};
+ghost use Rattle.px_tree.specs.Tree.{len};
+ghost use Rattle.px_tree.specs.View.{tree};
+
 use crate::physical::PhysicalExpr;
 use indexmap::IndexSet;
 use px_column::{Column, DataType, Name, Px, Steps, Value};
@@ -7,7 +11,55 @@ use px_frame::{DataFrame, Field, Schema};
 use px_plan::Expr;
 use px_window::ExecutionState;
 use std::alloc::Global;
+use std::marker::Model;
 use std::sync::ledger::Ledger;
+
+/// The number of rows (polars `CountExpr`).
+#[derive(Drop)]
+pub struct CountExpr {
+    expr: Expr,
+}
+
+impl Model for CountExpr {
+    ghost use Rattle.px_expr.specs.Planned.{Planned, coded_planned};
+
+    ghost Value = { Planned };
+
+    ghost coded = { coded_planned };
+
+    ghost use Rattle.std.specs.Prelude.{◌≡◌, []};
+    ghost use Rattle.px_tree.specs.Tree.{len};
+    ghost use Rattle.px_tree.specs.View.{tree};
+
+    ghost view = { λ a. record { tree = len; columns = [] } };
+
+    ghost invariant = { λ a. tree a.expr ≡ len };
+}
+
+impl CountExpr {
+    /// The number of rows.
+    pub fn new() -> CountExpr
+        ensures tree { result.tree ≡ len }
+        ensures columns { result.columns ≡ [] }
+    {
+        CountExpr { expr: Expr::Len }
+    }
+
+    /// The expression.
+    pub fn expr(&self) -> &Expr
+        ensures { tree result.now ≡ self.now.tree }
+    {
+        &self.expr
+    }
+
+    /// Whether it is a literal.
+    pub(crate) fn has_literals_alone(&self) -> bool
+        ensures { result ≡ is_literal_tree self.now.tree }
+    {
+        let _ = &self.expr;
+        false
+    }
+}
 
 impl PhysicalExpr for CountExpr {
     ghost planned = { λ a. a };

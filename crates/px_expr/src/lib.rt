@@ -3,22 +3,41 @@
 
 mod aggregation;
 mod alias;
-mod any;
-mod built;
+mod apply;
+mod binary;
+mod cast;
 mod column;
 mod conversion;
 mod count;
 mod depth;
+mod filter;
+mod gather;
 mod literal;
-mod node;
+mod phys_expr;
 mod physical;
 mod planner;
 mod range;
+mod slice;
+mod sort;
+mod sort_by;
+mod ternary;
 
-pub use built::is_built;
+pub use aggregation::{AggregationExpr, AggregationType};
+pub use alias::AliasExpr;
+pub use apply::ApplyExpr;
+pub use binary::BinaryExpr;
+pub use cast::CastExpr;
+pub use column::ColumnExpr;
 pub use conversion::{ExpressionConversionState, LocalConversionState, get_expr_depth_limit};
-pub use node::{
-    AggregationExpr, AggregationType, AliasExpr, ColumnExpr, CountExpr, LiteralExpr, PhysExpr,
-};
+pub use count::CountExpr;
+pub use filter::FilterExpr;
+pub use gather::GatherExpr;
+pub use literal::LiteralExpr;
+pub use phys_expr::PhysExpr;
 pub use physical::PhysicalExpr;
 pub use planner::{create_physical_expr, create_physical_expressions_from_irs};
+pub use px_plan::is_built;
+pub use slice::SliceExpr;
+pub use sort::SortExpr;
+pub use sort_by::SortByExpr;
+pub use ternary::TernaryExpr;

@@ -1,19 +1,21 @@
 //! Literals.
-ghost use Rattle.std.specs.Prelude.{◌≡◌, Ok, Some, true};
+ghost use Rattle.std.specs.Prelude.{◌≡◌, [], Ok, Some, true};
+ghost use Rattle.px_tree.specs.View.{tree};
 ghost use Rattle.px_column.specs.Prelude.{Answers, fits, kind_of, datum_of};
-ghost use Rattle.px_tree.specs.Tree.{single};
+ghost use Rattle.px_tree.specs.Shape.{is_literal_tree};
+ghost use Rattle.px_tree.specs.Tree.{literal, single};
 ghost use Rattle.px_tree.specs.View.{literal_of};
 ghost use Rattle.px_expr.specs.Literal.{kept_column, literal_column};
 
-use crate::node::LiteralExpr;
-use crate::physical::PhysicalExpr;
+use crate::physical::{PhysicalExpr, expression_field};
 use crate::range::range_column;
 use indexmap::IndexSet;
 use px_column::{ByteString, Column, DataType, Name, Px, PxError, Steps, Value};
 use px_frame::{DataFrame, Field, Schema};
-use px_plan::{Context, Expr, LiteralValue, output_name, type_of};
+use px_plan::{Expr, LiteralValue};
 use px_window::ExecutionState;
 use std::alloc::Global;
+use std::marker::Model;
 use std::sync::ledger::Ledger;
 
 /// One row that holds a value of the type.
@@ -68,6 +70,62 @@ fn column(alloc: Global, value: &LiteralValue) -> Px<Column>
     }
 }
 
+/// A literal (polars `LiteralExpr`).
+#[derive(Drop)]
+pub struct LiteralExpr {
+    value: LiteralValue,
+    expr: Expr,
+}
+
+impl Model for LiteralExpr {
+    ghost use Rattle.px_expr.specs.Planned.{Planned, coded_planned};
+
+    ghost Value = { Planned };
+
+    ghost coded = { coded_planned };
+
+    ghost use Rattle.std.specs.Prelude.{◌≡◌, []};
+    ghost use Rattle.px_tree.specs.Tree.{literal};
+    ghost use Rattle.px_tree.specs.View.{tree, literal_of};
+
+    ghost view = { λ a. record { tree = literal (literal_of a.value); columns = [] } };
+
+    ghost invariant = { λ a. tree a.expr ≡ literal (literal_of a.value) };
+}
+
+impl LiteralExpr {
+    /// This literal; the expression is that literal.
+    pub fn new(value: LiteralValue, expr: Expr) -> LiteralExpr
+        requires { tree expr ≡ literal (literal_of value) }
+        ensures tree { result.tree ≡ literal (literal_of value) }
+        ensures columns { result.columns ≡ [] }
+    {
+        LiteralExpr { value, expr }
+    }
+
+    /// The literal.
+    pub fn value(&self) -> &LiteralValue
+        ensures { self.now.tree ≡ literal (literal_of result.now) }
+    {
+        &self.value
+    }
+
+    /// The expression.
+    pub fn expr(&self) -> &Expr
+        ensures { tree result.now ≡ self.now.tree }
+    {
+        &self.expr
+    }
+
+    /// Whether it is a literal.
+    pub(crate) fn has_literals_alone(&self) -> bool
+        ensures { result ≡ is_literal_tree self.now.tree }
+    {
+        let _ = &self.expr;
+        true
+    }
+}
+
 impl PhysicalExpr for LiteralExpr {
     ghost planned = { λ a. a };
 
@@ -97,9 +155,7 @@ impl PhysicalExpr for LiteralExpr {
     }
 
     fn to_field(&self, alloc: Global, input_schema: &Schema) -> Px<Field> {
-        let dtype = type_of(alloc, &self.expr, input_schema, Context::Default)?;
-        let name = output_name(alloc, &self.expr)?;
-        Ok(Field { name, dtype })
+        expression_field(alloc, &self.expr, input_schema)
     }
 
     fn collect_live_columns(&self, alloc: Global, lv: &mut IndexSet<Name>) -> Px<()> {

@@ -5,6 +5,7 @@ ghost use Rattle.px_frame.specs.External.{alone};
 ghost use Rattle.px_frame.specs.SchemaView.{field_kind};
 ghost use Rattle.px_tree.specs.Shape.{is_unit};
 ghost use Rattle.px_tree.specs.View.{tree};
+ghost use Rattle.px_expr.specs.Counted.{RunAtMost, RunExactly};
 ghost use Rattle.px_expr.specs.Inline.{inline_on};
 ghost use Rattle.px_expr.specs.Live.{expression_of, field_on, is_literal_node, is_partitioned, live_names, added, AddsFront};
 ghost use Rattle.px_expr.specs.Planned.{Planned};
@@ -13,7 +14,7 @@ ghost use Rattle.px_expr.specs.Value.{IsValue, IsCause};
 use indexmap::IndexSet;
 use px_column::{Column, Name, Px, Steps};
 use px_frame::{DataFrame, Field, Schema};
-use px_plan::Expr;
+use px_plan::{Context, Expr, output_name, type_of};
 use px_window::ExecutionState;
 use std::alloc::Global;
 use std::sync::ledger::Ledger;
@@ -28,6 +29,8 @@ pub trait PhysicalExpr {
 
     /// The value on a frame as a column, a unit as one row. What is refused, missing or a fault is told
     /// by its error; `TooLong` comes only where the expression, or one in it, has 2^32 values or more.
+    /// `kernels` rises by one for each kernel that runs: where the expression is flat, exactly once a
+    /// node that has one, and never by more than the expression's cost.
     fn evaluate<L: Ledger, M: Ledger>(
         &self,
         alloc: Global,
@@ -39,7 +42,9 @@ pub trait PhysicalExpr {
         ensures value { IfOk result (λ c. IsValue (planned self.now) (alone df.now) c) }
         ensures causes { IfErr result (λ e. IsCause e (planned self.now) (alone df.now)) }
         ensures frame { state.new ≡ state.old }
-        ensures grouped { groupings.new ≡ groupings.old };
+        ensures grouped { groupings.new ≡ groupings.old }
+        ensures ticks { OnOk result (RunExactly (planned self.now).tree kernels.old kernels.new) }
+        ensures cost { RunAtMost (planned self.now).tree (alone df.now) kernels.old kernels.new };
 
     /// The value without a frame, where it is there: that of a literal which is no range, under at most
     /// four aliases.
@@ -72,4 +77,13 @@ pub trait PhysicalExpr {
     /// Whether its kind can be evaluated on chunks of rows, whose partial results are merged.
     fn is_partitioned_aggregator(&self) -> bool
         ensures { result ≡ is_partitioned (planned self.now).tree };
+}
+
+/// The name and the type of an expression over a schema, or its first refusal.
+pub(crate) fn expression_field(alloc: Global, expr: &Expr, schema: &Schema) -> Px<Field>
+    ensures { AnswersBy field_kind result (field_on (tree expr.now) schema.now) }
+{
+    let dtype = type_of(alloc, expr, schema, Context::Default)?;
+    let name = output_name(alloc, expr)?;
+    Ok(Field { name, dtype })
 }

@@ -1,22 +1,28 @@
 //! From expressions in an arena to nodes.
-ghost use Rattle.std.specs.Prelude.{◌≡◌, ◌<◌, true, [], length, map, Ok, IfErr, OnOk, OnErr};
+ghost use Rattle.std.specs.Prelude.{◌≡◌, ◌<◌, true, false, length, map, Ok, IfErr, OnOk, OnErr};
 ghost use Rattle.std.specs.List.{All};
 ghost use Rattle.px_column.specs.Prelude.{AnswersBy};
-ghost use Rattle.px_value.specs.declared.method.GroupByMethod.TheVariants.{Sum};
 ghost use Rattle.px_arena.specs.Arena.{tree_at};
-ghost use Rattle.px_tree.specs.Tree.{column, literal, alias, agg};
-ghost use Rattle.px_tree.specs.View.{tree, agg_tree, literal_of};
 ghost use Rattle.px_tree.specs.Built.{is_built_tree};
+ghost use Rattle.px_tree.specs.Shape.{have_window};
+ghost use Rattle.px_tree.specs.View.{tree, trees, agg_tree};
 ghost use Rattle.px_expr.specs.NodeView.{plan_of};
-ghost use Rattle.px_expr.specs.Plan.{plan_in, plans_in, planned_over, noted, all_noted, IsPlannable, NotesFront};
+ghost use Rattle.px_expr.specs.Plan.{plan_in, plans_in, planned_over, all_planned_over, noted, all_noted, IsPlannable, NotesFront};
+
+mod apply;
+mod nodes;
 
 use crate::conversion::ExpressionConversionState;
-use crate::node::{
-    AggregationExpr, AggregationType, AliasExpr, ColumnExpr, CountExpr, LiteralExpr, PhysExpr,
+use crate::count::CountExpr;
+use crate::phys_expr::PhysExpr;
+use apply::plan_apply;
+use nodes::{
+    plan_aggregation, plan_alias, plan_binary, plan_cast, plan_column, plan_filter, plan_gather,
+    plan_literal, plan_slice, plan_sort, plan_sort_by, plan_ternary,
 };
-use px_column::{GroupByMethod, Name, Px};
+use px_column::{GroupByMethod, Px};
 use px_frame::SchemaRef;
-use px_plan::{AggExpr, Arena, Context, Expr, ExprIR, LiteralValue, node_to_expr, type_of};
+use px_plan::{AggExpr, Arena, Context, Expr, ExprIR, Exprs, FunctionExpr, node_to_expr, type_of};
 use std::alloc::Global;
 
 /// The nodes of expressions in their order, each under the name that it is given, if any; or the first
@@ -86,10 +92,95 @@ fn plan_expr(alloc: Global, expr: &Expr, schema: &SchemaRef) -> Px<PhysExpr>
             let input = plan_expr(alloc, input, schema)?;
             plan_alias(alloc, input, name, expr)
         }
+        Expr::BinaryExpr { left, op, right } => {
+            let left = plan_expr(alloc, left, schema)?;
+            let right = plan_expr(alloc, right, schema)?;
+            plan_binary(alloc, left, *op, right, expr)
+        }
+        Expr::Ternary {
+            predicate,
+            truthy,
+            falsy,
+        } => {
+            let predicate = plan_expr(alloc, predicate, schema)?;
+            let truthy = plan_expr(alloc, truthy, schema)?;
+            let falsy = plan_expr(alloc, falsy, schema)?;
+            plan_ternary(alloc, predicate, truthy, falsy, expr)
+        }
+        Expr::Cast {
+            expr: input,
+            dtype,
+            options,
+        } => {
+            let input = plan_expr(alloc, input, schema)?;
+            plan_cast(alloc, input, dtype, *options, expr)
+        }
+        Expr::Function { input, function } => {
+            let inputs = plan_all(alloc, input, schema)?;
+            plan_apply(alloc, inputs, *function, expr, schema)
+        }
+        Expr::Explode(input) => {
+            let mut inputs = Vec::with_capacity(alloc, 1)?;
+            inputs.push(plan_expr(alloc, input, schema)?)?;
+            plan_apply(alloc, inputs, FunctionExpr::Explode, expr, schema)
+        }
+        Expr::Filter { input, by } => {
+            let input = plan_expr(alloc, input, schema)?;
+            let by = plan_expr(alloc, by, schema)?;
+            plan_filter(alloc, input, by, expr)
+        }
+        Expr::Slice {
+            input,
+            offset,
+            length,
+        } => {
+            let input = plan_expr(alloc, input, schema)?;
+            let offset = plan_expr(alloc, offset, schema)?;
+            let length = plan_expr(alloc, length, schema)?;
+            plan_slice(alloc, input, offset, length, expr)
+        }
+        Expr::Gather {
+            expr: input,
+            idx,
+            returns_scalar,
+        } => {
+            let input = plan_expr(alloc, input, schema)?;
+            let idx = plan_expr(alloc, idx, schema)?;
+            plan_gather(alloc, input, idx, *returns_scalar, expr)
+        }
+        Expr::Sort {
+            expr: input,
+            options,
+        } => {
+            let input = plan_expr(alloc, input, schema)?;
+            plan_sort(alloc, input, *options, expr)
+        }
+        Expr::SortBy {
+            expr: input,
+            by,
+            sort_options,
+        } => {
+            let input = plan_expr(alloc, input, schema)?;
+            let by = plan_all(alloc, by, schema)?;
+            plan_sort_by(alloc, input, by, sort_options, expr)
+        }
         Expr::Agg(reduction) => plan_reduction(alloc, reduction, schema),
         Expr::Len => Ok(PhysExpr::Count(CountExpr::new())),
-        _ => unreachable!(),
+        Expr::Window { .. } => unreachable!(),
     }
+}
+
+// The nodes of some expressions that have no refusal over the schema, in their order.
+#[cycle(plan_expr)]
+fn plan_all(alloc: Global, exprs: &Exprs, schema: &SchemaRef) -> Px<Vec<PhysExpr>>
+    requires { have_window (trees exprs.now) ≡ false }
+    ensures { AnswersBy (λ v. map plan_of v.items) result (Ok (all_planned_over schema.now.value (trees exprs.now))) }
+{
+    let mut plans = Vec::with_capacity(alloc, exprs.items.len())?;
+    for expr in exprs.items.iter() {
+        plans.push(plan_expr(alloc, expr, schema)?)?;
+    }
+    Ok(plans)
 }
 
 // The node of a reduction that has no refusal over the schema.
@@ -98,52 +189,21 @@ fn plan_reduction(alloc: Global, reduction: &AggExpr, schema: &SchemaRef) -> Px<
     requires { is_built_tree (agg_tree reduction.now) ≡ true }
     ensures { AnswersBy plan_of result (Ok (planned_over schema.now.value (agg_tree reduction.now))) }
 {
-    match reduction {
-        AggExpr::Sum(input) => {
-            let input = plan_expr(alloc, input, schema)?;
-            plan_sum(alloc, input)
-        }
-        AggExpr::Min(_)
-        | AggExpr::Max(_)
-        | AggExpr::First(_)
-        | AggExpr::Last(_)
-        | AggExpr::NUnique(_)
-        | AggExpr::Implode(_)
-        | AggExpr::Count(..) => unreachable!(),
-    }
-}
-
-fn plan_column(alloc: Global, name: &Name, schema: &SchemaRef) -> Px<PhysExpr>
-    ensures { AnswersBy plan_of result (Ok (planned_over schema.now.value (column name.now))) }
-{
-    let expr = Expr::Column(name.try_clone(alloc)?);
-    let name = name.try_clone(alloc)?;
-    Ok(PhysExpr::Column(ColumnExpr::new(name, expr, schema.clone()?)))
-}
-
-fn plan_literal(alloc: Global, value: &LiteralValue) -> Px<PhysExpr>
-    ensures { AnswersBy plan_of result (Ok (record { tree = literal (literal_of value.now); columns = [] })) }
-{
-    let expr = Expr::Literal(value.try_clone(alloc)?);
-    let value = value.try_clone(alloc)?;
-    Ok(PhysExpr::Literal(LiteralExpr::new(value, expr)))
-}
-
-// A node under a name, with the expression that the node stands for.
-fn plan_alias(alloc: Global, input: PhysExpr, name: &Name, expr: Expr) -> Px<PhysExpr>
-    requires { tree expr ≡ (plan_of input).tree }
-    ensures { AnswersBy plan_of result (Ok (record (plan_of input) { tree = alias (plan_of input).tree name.now })) }
-{
-    let input = Box::new(alloc, input)?;
-    Ok(PhysExpr::Alias(AliasExpr::new(input, name.try_clone(alloc)?, expr)))
-}
-
-fn plan_sum(alloc: Global, input: PhysExpr) -> Px<PhysExpr>
-    ensures { AnswersBy plan_of result (Ok (record (plan_of input) { tree = agg Sum (plan_of input).tree })) }
-{
-    let input = Box::new(alloc, input)?;
-    let sum = AggregationType {
-        groupby: GroupByMethod::Sum,
+    let (method, input) = match reduction {
+        AggExpr::Min(input) => (GroupByMethod::Min, input),
+        AggExpr::Max(input) => (GroupByMethod::Max, input),
+        AggExpr::Sum(input) => (GroupByMethod::Sum, input),
+        AggExpr::First(input) => (GroupByMethod::First, input),
+        AggExpr::Last(input) => (GroupByMethod::Last, input),
+        AggExpr::NUnique(input) => (GroupByMethod::NUnique, input),
+        AggExpr::Implode(input) => (GroupByMethod::Implode, input),
+        AggExpr::Count(input, include_nulls) => (
+            GroupByMethod::Count {
+                include_nulls: *include_nulls,
+            },
+            input,
+        ),
     };
-    Ok(PhysExpr::Aggregation(AggregationExpr::new(input, sum, None)))
+    let input = plan_expr(alloc, input, schema)?;
+    plan_aggregation(alloc, input, method)
 }

@@ -1,0 +1,108 @@
+-- Nodes over nodes that were planned over one schema.
+use Rattle.std.proofs.Common.{◌≡◌, ℕ, List, [], ◌∷◌, ◌++◌, Result, Ok, Err, map, refl, sym, ◌∙◌, ap, subst}
+use Rattle.std.proofs.lemmas.List.{map-append}
+use Rattle.px_column.specs.Prelude.{Answers, AnswersBy}
+use Rattle.px_value.specs.declared.error.PxError.{PxError}
+use Rattle.px_value.specs.declared.sort_options.SortMultipleOptions.{SortMultipleOptions}
+use Rattle.px_tree.specs.Nodes.{leaf_names, all_leaf_names}
+use Rattle.px_tree.specs.Tree.{Tree, Trees, Call, no_trees, one_tree, function, by_name, sort_by}
+use Rattle.px_tree.specs.Typing.{Scope}
+use Rattle.px_tree.specs.View.{tree, trees, agg_step, tree_step, trees_step}
+use Rattle.px_tree.specs.declared.expr.AggExpr.TheOpen.{Expr-F}
+use Rattle.px_tree.specs.declared.expr.Expr.{Expr, fold-roll-Expr}
+use Rattle.px_tree.specs.declared.expr.Expr.TheVariants.{Function, rolls-Function}
+use Rattle.px_tree.specs.declared.expr.Exprs.{Exprs}
+use Rattle.px_tree.specs.declared.function.FunctionExpr.{FunctionExpr}
+use Rattle.px_expr.specs.Parts.{call_in, call_on, plan_columns, plan_trees}
+use Rattle.px_expr.specs.Plan.{planned_over, all_planned_over}
+use Rattle.px_expr.specs.Planned.{Planned, PlannedColumn}
+
+-- a column node of a name
+abbrev planned_column : Scope → List ℕ → PlannedColumn
+planned_column scope n = record { name = n; schema = scope }
+
+-- the column nodes of some names
+abbrev columns_over : Scope → List (List ℕ) → List PlannedColumn
+columns_over scope names = map (planned_column scope) names
+
+-- an expression with these column nodes
+abbrev with_columns : Tree → List PlannedColumn → Planned
+with_columns t cs = record { tree = t; columns = cs }
+
+-- the tree of a function of some expressions
+pub tree-Function : (es : Exprs) (f : FunctionExpr) → tree (Function es f) ≡ function (trees es) (by_name f)
+tree-Function es f = ap tree (sym (rolls-Function es f)) ∙ fold-roll-Expr Tree Tree Trees agg_step tree_step trees_step (Expr-F.Function es f)
+
+columns_append : (scope : Scope) (ms ns : List (List ℕ)) → columns_over scope (ms ++ ns) ≡ columns_over scope ms ++ columns_over scope ns
+columns_append scope ms ns = map-append (planned_column scope) ms ns
+
+-- the expressions of some nodes
+trees_planned : (scope : Scope) (ts : Trees) → plan_trees (all_planned_over scope ts) ≡ ts
+trees_planned scope no_trees = refl
+trees_planned scope (one_tree t ts) = ap (one_tree t) (trees_planned scope ts)
+
+-- the column nodes of some nodes
+columns_planned : (scope : Scope) (ts : Trees) → plan_columns (all_planned_over scope ts) ≡ columns_over scope (all_leaf_names ts)
+columns_planned scope no_trees = refl
+columns_planned scope (one_tree t ts) = ap (λ (cs : List PlannedColumn). columns_over scope (leaf_names t) ++ cs) (columns_planned scope ts) ∙ sym (columns_append scope (leaf_names t) (all_leaf_names ts))
+
+opened : {X : Type 0} (x y : X) → Answers (Ok x) (Ok y) → y ≡ x
+opened x y h = cc
+
+columns_of_one : (scope : Scope) (t : Tree) (p : Planned) → Answers (Ok p) (Ok (planned_over scope t)) → p.columns ≡ columns_over scope (leaf_names t)
+columns_of_one scope t p h = ap (λ (q : Planned). q.columns) (sym (opened p (planned_over scope t) h))
+
+columns_of_all : (scope : Scope) (ts : Trees) (ps : List Planned) → Answers (Ok ps) (Ok (all_planned_over scope ts)) → plan_columns ps ≡ columns_over scope (all_leaf_names ts)
+columns_of_all scope ts ps h = ap plan_columns (sym (opened ps (all_planned_over scope ts) h)) ∙ columns_planned scope ts
+
+trees_of_all : (scope : Scope) (ts : Trees) (ps : List Planned) → Answers (Ok ps) (Ok (all_planned_over scope ts)) → ts ≡ plan_trees ps
+trees_of_all scope ts ps h = sym (trees_planned scope ts) ∙ ap plan_trees (opened ps (all_planned_over scope ts) h)
+
+-- column nodes after column nodes
+columns_joined : (scope : Scope) (us vs : List PlannedColumn) (ms ns : List (List ℕ)) → us ≡ columns_over scope ms → vs ≡ columns_over scope ns → us ++ vs ≡ columns_over scope (ms ++ ns)
+columns_joined scope us vs ms ns first second = ap (λ (cs : List PlannedColumn). cs ++ vs) first ∙ (ap (λ (cs : List PlannedColumn). columns_over scope ms ++ cs) second ∙ sym (columns_append scope ms ns))
+
+-- a node whose column nodes are those of its expression's names
+answer_over : {X : Type 0} (view : X → Planned) (r : Result X PxError) (scope : Scope) (t : Tree) (names : List (List ℕ)) (cs : List PlannedColumn) → leaf_names t ≡ names → cs ≡ columns_over scope names → AnswersBy view r (Ok (with_columns t cs)) → AnswersBy view r (Ok (planned_over scope t))
+answer_over view r scope t names cs named same answer = subst (λ (p : Planned). AnswersBy view r (Ok p)) (ap (with_columns t) (same ∙ ap (columns_over scope) (sym named))) answer
+
+-- a node of two others
+pub two_over : {X : Type 0} (view : X → Planned) (r : Result X PxError) (scope : Scope) (t a b : Tree) (p q : Planned) → leaf_names t ≡ leaf_names a ++ leaf_names b
+    → Answers (Ok p) (Ok (planned_over scope a)) → Answers (Ok q) (Ok (planned_over scope b)) → AnswersBy view r (Ok (with_columns t (p.columns ++ q.columns))) → AnswersBy view r (Ok (planned_over scope t))
+two_over view r scope t a b p q named left right answer =
+    answer_over view r scope t (leaf_names a ++ leaf_names b) (p.columns ++ q.columns) named
+    (columns_joined scope p.columns q.columns (leaf_names a) (leaf_names b) (columns_of_one scope a p left) (columns_of_one scope b q right)) answer
+
+-- a node of three others
+pub three_over : {X : Type 0} (view : X → Planned) (r : Result X PxError) (scope : Scope) (t a b d : Tree) (p q s : Planned) → leaf_names t ≡ leaf_names a ++ (leaf_names b ++ leaf_names d)
+    → Answers (Ok p) (Ok (planned_over scope a)) → Answers (Ok q) (Ok (planned_over scope b)) → Answers (Ok s) (Ok (planned_over scope d))
+    → AnswersBy view r (Ok (with_columns t (p.columns ++ (q.columns ++ s.columns)))) → AnswersBy view r (Ok (planned_over scope t))
+three_over view r scope t a b d p q s named first second third answer =
+    answer_over view r scope t (leaf_names a ++ (leaf_names b ++ leaf_names d)) (p.columns ++ (q.columns ++ s.columns)) named
+    (columns_joined scope p.columns (q.columns ++ s.columns) (leaf_names a) (leaf_names b ++ leaf_names d) (columns_of_one scope a p first)
+    (columns_joined scope q.columns s.columns (leaf_names b) (leaf_names d) (columns_of_one scope b q second) (columns_of_one scope d s third))) answer
+
+-- a node of a list of others
+pub list_over : {X : Type 0} (view : X → Planned) (r : Result X PxError) (scope : Scope) (t : Tree) (ts : Trees) (ps : List Planned) → leaf_names t ≡ all_leaf_names ts
+    → Answers (Ok ps) (Ok (all_planned_over scope ts)) → AnswersBy view r (Ok (with_columns t (plan_columns ps))) → AnswersBy view r (Ok (planned_over scope t))
+list_over view r scope t ts ps named planned answer = answer_over view r scope t (all_leaf_names ts) (plan_columns ps) named (columns_of_all scope ts ps planned) answer
+
+-- a node of one and a list of others
+pub one_and_list_over : {X : Type 0} (view : X → Planned) (r : Result X PxError) (scope : Scope) (t a : Tree) (ts : Trees) (p : Planned) (ps : List Planned) → leaf_names t ≡ leaf_names a ++ all_leaf_names ts
+    → Answers (Ok p) (Ok (planned_over scope a)) → Answers (Ok ps) (Ok (all_planned_over scope ts)) → AnswersBy view r (Ok (with_columns t (p.columns ++ plan_columns ps))) → AnswersBy view r (Ok (planned_over scope t))
+one_and_list_over view r scope t a ts p ps named first planned answer =
+    answer_over view r scope t (leaf_names a ++ all_leaf_names ts) (p.columns ++ plan_columns ps) named
+    (columns_joined scope p.columns (plan_columns ps) (leaf_names a) (all_leaf_names ts) (columns_of_one scope a p first) (columns_of_all scope ts ps planned)) answer
+
+-- the expression of a function of nodes
+pub call_over : (scope : Scope) (t : Tree) (ts : Trees) (k : Call) (ps : List Planned) → t ≡ call_on ts k → Answers (Ok ps) (Ok (all_planned_over scope ts)) → t ≡ call_on (plan_trees ps) (call_in t)
+call_over scope t ts k ps shape planned =
+    let kept : k ≡ call_in t = sym (ap call_in shape) in
+    shape ∙ (ap (λ (us : Trees). call_on us k) (trees_of_all scope ts ps planned) ∙ ap (call_on (plan_trees ps)) kept)
+
+-- the expression of a sort of one node by others
+pub sort_by_over : (scope : Scope) (t a : Tree) (ts : Trees) (options : SortMultipleOptions) (p : Planned) (ps : List Planned) → t ≡ sort_by a ts options
+    → Answers (Ok p) (Ok (planned_over scope a)) → Answers (Ok ps) (Ok (all_planned_over scope ts)) → t ≡ sort_by p.tree (plan_trees ps) options
+sort_by_over scope t a ts options p ps shape first planned =
+    let input : a ≡ p.tree = ap (λ (q : Planned). q.tree) (opened p (planned_over scope a) first) in
+    shape ∙ (ap (λ (x : Tree). sort_by x ts options) input ∙ ap (λ (us : Trees). sort_by p.tree us options) (trees_of_all scope ts ps planned))
