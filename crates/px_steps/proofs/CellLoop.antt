@@ -6,7 +6,7 @@ use Rattle.px_column.specs.Option.{each}
 use Rattle.px_value.specs.declared.error.PxError.{PxError}
 use Rattle.px_expr.specs.NodeView.{plan_of}
 use Rattle.px_expr.specs.Value.{IsCause}
-use Rattle.px_expr.specs.declared.node.PhysExpr.{PhysExpr}
+use Rattle.px_expr.specs.declared.phys_expr.PhysExpr.{PhysExpr}
 use Rattle.px_frame.specs.CellView.{named_cell}
 use Rattle.px_frame.specs.External.{Frame}
 use Rattle.px_frame.specs.Spread.{NamedCell}

@@ -106,7 +106,7 @@ replicated zero s = refl
 replicated (suc n) s = ap (λ m. suc m) (replicated n s)
 
 -- a cell brought to a height keeps its name and type, and has that height
-spread_made : (n : ℕ) (c : NamedCell) (s : Series) → result_ok (spread_column n c) ≡ Some s → (s.name ≡ c.name) × (s.kind ≡ c.kind) × (length s.slots ≡ n)
+pub spread_made : (n : ℕ) (c : NamedCell) (s : Series) → result_ok (spread_column n c) ≡ Some s → (s.name ≡ c.name) × (s.kind ≡ c.kind) × (length s.slots ≡ n)
 spread_made n c s h = by c.cell h
   where
     same : (xs : List Slot) → length xs ≡ n → Some (record { name = c.name; kind = c.kind; slots = xs }) ≡ Some s → (s.name ≡ c.name) × (s.kind ≡ c.kind) × (length s.slots ≡ n)

@@ -1,5 +1,5 @@
 -- Expressions on the frames of groups: what is known of them on the whole frame is known of them there.
-use Rattle.std.proofs.Common.{◌≡◌, inl, inr, ℕ, zero, suc, ◌≤◌, ◌^◌, Bool, true, List, [], ◌∷◌, ◌++◌, Option, Some, None, Result, Ok, Err, length, option_map, option_and_then, map, max, sum, nat_lt, slice_get, refl, sym, ◌∙◌, ap, subst, arith, if◌then◌else◌}
+use Rattle.std.proofs.Common.{◌≡◌, inl, inr, ℕ, zero, suc, ◌≤◌, ◌^◌, Bool, true, false, ◌||◌, List, [], ◌∷◌, ◌++◌, Option, Some, None, Result, Ok, Err, length, option_map, option_and_then, map, max, sum, nat_lt, slice_get, refl, sym, ◌∙◌, ap, subst, arith, if◌then◌else◌}
 use Rattle.std.specs.List.{flat_map, list_all}
 use Rattle.px_column.specs.Prelude.{Answers, AnswersBy, Refuses, Slot, Kind, lists, slot_fits, slots_fit, Series}
 use Rattle.px_column.specs.Column.{made}
@@ -9,7 +9,7 @@ use Rattle.px_value.specs.declared.error.PxError.{PxError}
 use Rattle.px_value.specs.declared.error.PxError.TheVariants.{OutOfMemory, ColumnNotFound, Duplicate, InvalidOperation, ComputeError, OutOfBounds, ShapeMismatch, SchemaMismatch}
 use Rattle.px_value.specs.declared.error.InvalidWhy.TheVariants.{Types}
 use Rattle.px_value.specs.declared.method.GroupByMethod.TheVariants.{Sum}
-use Rattle.px_tree.specs.Built.{is_built_tree, is_sum}
+use Rattle.px_tree.specs.Built.{is_built_tree}
 use Rattle.px_expr.specs.Plan.{planned_over}
 use Rattle.px_expr.specs.Planned.{Planned}
 use Rattle.px_expr.specs.Value.{IsCause, causes_on}
@@ -19,10 +19,10 @@ use Rattle.px_frame.specs.Frame.{are_below, subframe}
 use Rattle.px_frame.specs.Groups.{Group, IsGroups, is_group}
 use Rattle.px_frame.specs.Schema.{column_field}
 use Rattle.px_frame.specs.Spread.{NamedCell}
-use Rattle.px_tree.specs.Node.{is_unit_cell}
-use Rattle.px_tree.specs.Shape.{is_unit, name_of}
-use Rattle.px_tree.specs.Size.{count_on, counts_on, size_on}
-use Rattle.px_tree.specs.Tree.{Tree, Literal, single, range, series, column, literal, alias, agg, len}
+use Rattle.px_frame.specs.Cell.{is_unit_cell}
+use Rattle.px_tree.specs.Shape.{has_window, have_window, is_unit, name_of}
+use Rattle.px_tree.specs.Size.{count_on, counts_on, size_on, sizes_on}
+use Rattle.px_tree.specs.Tree.{Tree, Trees, no_trees, one_tree, column, literal, alias, binary, ternary, cast, function, filter, slice, gather, sort, sort_by, agg, len, window}
 use Rattle.px_tree.specs.Typing.{Scope, kind_in, grouped_reduction_refusals, first_or_kind, or_first, refusal_of_one, refusals_of, type_of}
 use Rattle.px_tree.specs.Value.{faults_on, value_on}
 use Rattle.px_tree.specs.declared.context.Context.{Context}
@@ -35,8 +35,8 @@ use Rattle.px_steps.specs.Plain.{agg_refusals, aggregated_on, grouped_kind, name
 use Rattle.px_steps.proofs.Columns.{map_some}
 use Rattle.px_value.proofs.FitLaws.{both}
 use Rattle.px_steps.proofs.Members.{In, in_map, in_one, in_sum}
-use Rattle.px_steps.proofs.Selected.{cause_lacks, faults_alone}
-use Rattle.px_tree.proofs.KindLaws.{kind_there, none_first as inputs_none, none_right as nil_right, none_own as own_none}
+use Rattle.px_steps.proofs.Selected.{cause_lacks, faults_alone, neither, no_window}
+use Rattle.px_tree.proofs.KindLaws.{kind_there}
 
 -- where there is no refusal, memory was wanting
 pub no_first : (e : PxError) (refusals : List PxError) → refusals ≡ [] → IsFirst e refusals → e ≡ OutOfMemory
@@ -87,23 +87,6 @@ accepted_lacks e p cs a c =
     let same : causes_on p (alone cs) ≡ faults_on p.tree (alone cs) = ap (λ q. causes_on q (alone cs)) a.over ∙ faults_alone cs p.tree a.built a.accepted in
     subst (λ (es : List PxError). Lacks e es (size_on p.tree (alone cs ∷ []))) same (cause_lacks e p (alone cs) c)
 
--- groups refuse more than the frame
-pub less_refused : (t : Tree) (scope : Scope) → is_built_tree t ≡ true → refusals_of t scope Aggregation ≡ [] → refusals_of t scope Default ≡ []
-less_refused (column n) scope b h = h
-less_refused (literal v) scope b h = by v h
-  where
-    by : (v : Literal) → refusals_of (literal v) scope Aggregation ≡ [] → refusals_of (literal v) scope Default ≡ []
-    by (single k s) h = h
-    by (range low high k) h = h
-    by (series s) h = h
-less_refused (alias e n) scope b h = less_refused e scope b h
-less_refused (agg m e) scope b h =
-    let input = less_refused e scope (both (is_sum m) (is_built_tree e) b).1 (inputs_none (refusals_of e scope Aggregation) _ h) in
-    let own : refusal_of_one (reduced_kind m) (kind_in e scope) ≡ [] = nil_right (grouped_reduction_refusals m e) _ (own_none (refusals_of e scope Aggregation) _ h) in
-    λ i. or_first (input i) (own i)
-less_refused len scope b h = refl
-less_refused _ scope b h = cc
-
 -- a named value is the value, with the expression's type
 pub value_there : (frame : Frame) (t : Tree) (c : NamedCell) → named_value frame t ≡ Some c → (value_on t frame ≡ Some c.cell) × (kind_in t (scope_of frame) ≡ Some c.kind)
 value_there frame t c h = by (value_on t frame) (kind_in t (scope_of frame)) h
@@ -123,26 +106,49 @@ fits_grouped t cs rows c s h u f = λ k e.
 count_in : (t : Tree) (fs : List Frame) (f : Frame) → In f fs → counts_on t (f ∷ []) ≤ counts_on t fs
 count_in t fs f h = let within : count_on t f ≤ sum (map (count_on t) fs) = in_sum (count_on t) fs f h in omega (arith, within)
 
--- an expression has no more values on one frame than on all together
-pub size_in : (t : Tree) (fs : List Frame) (f : Frame) → is_built_tree t ≡ true → In f fs → size_on t (f ∷ []) ≤ size_on t fs
-size_in (column n) fs f b h = count_in (column n) fs f h
-size_in (literal v) fs f b h = count_in (literal v) fs f h
-size_in (alias e n) fs f b h =
-    let own : counts_on (alias e n) (f ∷ []) ≤ counts_on (alias e n) fs = count_in (alias e n) fs f h in
-    let input : size_on e (f ∷ []) ≤ size_on e fs = size_in e fs f b h in
-    larger _ _ _ _ own input
-  where
-    larger : (a b c d : ℕ) → a ≤ b → c ≤ d → max a c ≤ max b d
-    larger a b c d p q = omega arith
-size_in (agg m e) fs f b h =
-    let own : counts_on (agg m e) (f ∷ []) ≤ counts_on (agg m e) fs = count_in (agg m e) fs f h in
-    let input : size_on e (f ∷ []) ≤ size_on e fs = size_in e fs f (both (is_sum m) (is_built_tree e) b).1 h in
-    larger _ _ _ _ own input
-  where
-    larger : (a b c d : ℕ) → a ≤ b → c ≤ d → max a c ≤ max b d
-    larger a b c d p q = omega arith
-size_in len fs f b h = count_in len fs f h
-size_in _ fs f b h = cc
+larger : (a b c d : ℕ) → a ≤ b → c ≤ d → max a c ≤ max b d
+larger a b c d p q = omega arith
+
+module _ (fs : List Frame) (f : Frame) (h : In f fs) where
+  mutual
+    -- an expression has no more values on one frame than on all together
+    pub size_in : (t : Tree) → has_window t ≡ false → size_on t (f ∷ []) ≤ size_on t fs
+    size_in (column n) b = count_in (column n) fs f h
+    size_in (literal v) b = count_in (literal v) fs f h
+    size_in (alias e n) b = larger _ _ _ _ (count_in (alias e n) fs f h) (size_in e b)
+    size_in (binary l op r) b =
+        let each_of = neither (has_window l) (has_window r) b in
+        larger _ _ _ _ (count_in (binary l op r) fs f h) (larger _ _ _ _ (size_in l each_of.0) (size_in r each_of.1))
+    size_in (ternary p x y) b =
+        let first = neither (has_window p) (has_window x || has_window y) b in
+        let rest = neither (has_window x) (has_window y) first.1 in
+        larger _ _ _ _ (count_in (ternary p x y) fs f h) (larger _ _ _ _ (size_in p first.0) (larger _ _ _ _ (size_in x rest.0) (size_in y rest.1)))
+    size_in (cast e k options) b = larger _ _ _ _ (count_in (cast e k options) fs f h) (size_in e b)
+    size_in (function es c) b = larger _ _ _ _ (count_in (function es c) fs f h) (sizes_in es b)
+    size_in (filter e by) b =
+        let each_of = neither (has_window e) (has_window by) b in
+        larger _ _ _ _ (count_in (filter e by) fs f h) (larger _ _ _ _ (size_in e each_of.0) (size_in by each_of.1))
+    size_in (slice e offset length) b =
+        let first = neither (has_window e) (has_window offset || has_window length) b in
+        let rest = neither (has_window offset) (has_window length) first.1 in
+        larger _ _ _ _ (count_in (slice e offset length) fs f h) (larger _ _ _ _ (size_in e first.0) (larger _ _ _ _ (size_in offset rest.0) (size_in length rest.1)))
+    size_in (gather e idx one) b =
+        let each_of = neither (has_window e) (has_window idx) b in
+        larger _ _ _ _ (count_in (gather e idx one) fs f h) (larger _ _ _ _ (size_in e each_of.0) (size_in idx each_of.1))
+    size_in (sort e options) b = larger _ _ _ _ (count_in (sort e options) fs f h) (size_in e b)
+    size_in (sort_by e by options) b =
+        let each_of = neither (has_window e) (have_window by) b in
+        larger _ _ _ _ (count_in (sort_by e by options) fs f h) (larger _ _ _ _ (size_in e each_of.0) (sizes_in by each_of.1))
+    size_in (agg m e) b = larger _ _ _ _ (count_in (agg m e) fs f h) (size_in e b)
+    size_in len b = count_in len fs f h
+    size_in (window g keys order mapping) b = cc
+
+    -- nor have some expressions
+    sizes_in : (ts : Trees) → have_window ts ≡ false → sizes_on ts (f ∷ []) ≤ sizes_on ts fs
+    sizes_in no_trees b = omega arith
+    sizes_in (one_tree t ts) b =
+        let each_of = neither (has_window t) (have_window ts) b in
+        larger _ _ _ _ (size_in t each_of.0) (sizes_in ts each_of.1)
 
 -- what lacks on one part lacks on all
 pub part_lacks : (e : PxError) (t : Tree) (frame : Frame) (parts : List (List ℕ)) (p : List ℕ) → is_built_tree t ≡ true → In p parts
@@ -150,7 +156,7 @@ pub part_lacks : (e : PxError) (t : Tree) (frame : Frame) (parts : List (List �
 part_lacks e t frame parts p b h (inl m) = inl m
 part_lacks e t frame parts p b h (inr (inl o)) = inr (inl (in_one (λ q. faults_on t (rows_of_frame frame q)) parts p e h o))
 part_lacks e t frame parts p b h (inr (inr l)) =
-    let more : size_on t (rows_of_frame frame p ∷ []) ≤ size_on t (part_frames frame parts) = size_in t (part_frames frame parts) (rows_of_frame frame p) b (in_map (rows_of_frame frame) parts p h) in
+    let more : size_on t (rows_of_frame frame p ∷ []) ≤ size_on t (part_frames frame parts) = size_in (part_frames frame parts) (rows_of_frame frame p) (in_map (rows_of_frame frame) parts p h) t (no_window t b) in
     inr (inr (l.0, longer _ _ l.1 more))
   where
     longer : (m n : ℕ) → 2 ^ 32 ≤ m → m ≤ n → 2 ^ 32 ≤ n

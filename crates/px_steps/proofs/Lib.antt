@@ -3,6 +3,7 @@ pub mod Selected
 pub mod Members
 pub mod Grouping
 pub mod GroupStep
+pub mod Filtered
 pub mod CellLoop
 pub mod Grouped
 pub mod Columns

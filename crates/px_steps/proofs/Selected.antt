@@ -11,7 +11,7 @@ use Rattle.px_column.specs.Result.{◌>>=◌}
 use Rattle.px_value.specs.declared.error.PxError.{PxError}
 use Rattle.px_value.specs.declared.error.PxError.TheVariants.{ColumnNotFound, Duplicate, InvalidOperation, ComputeError, OutOfBounds, ShapeMismatch, SchemaMismatch, OutOfMemory}
 use Rattle.px_value.specs.declared.error.ComputeWhy.TheVariants.{TooLong}
-use Rattle.px_tree.specs.Built.{is_built_tree, is_sum}
+use Rattle.px_tree.specs.Built.{is_built_tree}
 use Rattle.px_expr.specs.Plan.{plan_in, planned_over}
 use Rattle.px_expr.specs.Planned.{Planned, is_reserved}
 use Rattle.px_expr.specs.Value.{IsValue, IsCause, IsOneOf, causes_on, unfound_refusal}
@@ -20,12 +20,12 @@ use Rattle.px_frame.specs.Cell.{Cell}
 use Rattle.px_frame.specs.Frame.{first_repeat, height_of, look, unless_repeated}
 use Rattle.px_frame.specs.Spread.{NamedCell, assembled, rows_beside, spread_all}
 use Rattle.px_frame.specs.Schema.{FieldKind, column_field, has_field_name}
-use Rattle.px_tree.specs.Node.{cell_of}
-use Rattle.px_tree.specs.Nodes.{leaf_names}
-use Rattle.px_tree.specs.Shape.{is_unit, name_of}
+use Rattle.px_frame.specs.Cell.{cell_of}
+use Rattle.px_tree.specs.Nodes.{leaf_names, all_leaf_names}
+use Rattle.px_tree.specs.Shape.{has_window, have_window, is_unit, name_of}
 use Rattle.px_tree.specs.Size.{size_on}
-use Rattle.px_tree.specs.Tree.{Tree, column, literal, alias, agg, len}
-use Rattle.px_tree.specs.Typing.{Scope, kind_in, kind_of_name, refusals_of, refused_where, refusal_of, refusal_of_one, made_kind, literal_kind, on_groups, grouped_reduction_refusals, or_first, first_or_kind}
+use Rattle.px_tree.specs.Tree.{Tree, Trees, no_trees, one_tree, column, literal, alias, binary, ternary, cast, function, filter, slice, gather, sort, sort_by, agg, len, window}
+use Rattle.px_tree.specs.Typing.{Scope, kind_in, kind_of_name, refusals_of, all_refusals_of, refused_where, refusal_of, refusal_of_one, made_kind, literal_kind, on_groups, grouped_reduction_refusals, or_first, first_or_kind}
 use Rattle.px_tree.specs.Value.{faults_on, is_misfit, has_misfit, value_on, named}
 use Rattle.px_tree.specs.declared.context.Context.{Context}
 use Rattle.px_tree.specs.declared.context.Context.TheVariants.{Default}
@@ -36,7 +36,7 @@ use Rattle.px_steps.specs.Causes.{IsCauseOfAny, IsStepCause, StepAnswers}
 use Rattle.px_steps.specs.Plain.{first_of, first_refusal, frame_refusals, greatest, named_value, misfit_faults, refused_by, repeat_refusal, step_on, step_refusals, uneven_fault}
 use Rattle.px_tree.specs.Step.{PlainStep, select}
 use Rattle.px_expr.specs.NodeView.{plan_of}
-use Rattle.px_expr.specs.declared.node.PhysExpr.{PhysExpr}
+use Rattle.px_expr.specs.declared.phys_expr.PhysExpr.{PhysExpr}
 use Rattle.px_value.proofs.EachLaws.{each_maps}
 use Rattle.px_value.proofs.FitLaws.{both}
 use Rattle.px_steps.proofs.Named.{IsFirst_append, refuses_first, refuses_none}
@@ -77,14 +77,92 @@ name_found n cs e h =
     let there : look n cs ≡ Some t.1.0 = t.1.1 in
     rw (plain, there) refl
 
+-- neither of two is true
+pub neither : (a b : Bool) → (a || b) ≡ false → (a ≡ false) × (b ≡ false)
+neither true b h = cc
+neither false b h = (refl, h)
+
+-- an expression that is evaluated has no window
+pub no_window : (t : Tree) → is_built_tree t ≡ true → has_window t ≡ false
+no_window t b = by (has_window t) b
+  where
+    by : (w : Bool) → not w ≡ true → w ≡ false
+    by true h = cc
+    by false h = refl
+
+module _ (cs : List Series) where
+  -- what is refused of the column nodes of some names
+  abbrev unfound : List (List ℕ) → List PxError
+  unfound ns = flat_map (unfound_refusal (alone cs)) (map (λ n. record { name = n; schema = map column_field cs }) ns)
+
+  joined : (ns ms : List (List ℕ)) → unfound ns ≡ [] → unfound ms ≡ [] → unfound (ns ++ ms) ≡ []
+  joined [] ms a b = b
+  joined (n ∷ ns) ms a b =
+      let one = unfound_refusal (alone cs) (record { name = n; schema = map column_field cs }) in
+      let here : one ≡ [] = nil_left one (unfound ns) a in
+      let rest = joined ns ms (nil_right one (unfound ns) a) b in
+      λ i. here i ++ rest i
+
+  -- an expression's refusals over the columns
+  abbrev refused : Tree → List PxError
+  refused t = refusals_of t (map column_field cs) Default
+
+  abbrev all_refused : Trees → List PxError
+  all_refused ts = all_refusals_of ts (map column_field cs) Default
+
+  mutual
+    -- each column node of an expression that is not refused finds its column
+    names_found : (t : Tree) → has_window t ≡ false → refused t ≡ [] → unfound (leaf_names t) ≡ []
+    names_found (column n) b h = ap (λ es. es ++ []) (name_found n cs (ColumnNotFound n) h)
+    names_found (literal v) b h = refl
+    names_found (alias e n) b h = names_found e b h
+    names_found (binary l op r) b h =
+        let w = neither (has_window l) (has_window r) b in
+        let inputs = inputs_none (refused l ++ refused r) _ h in
+        joined (leaf_names l) (leaf_names r) (names_found l w.0 (nil_left (refused l) (refused r) inputs)) (names_found r w.1 (nil_right (refused l) (refused r) inputs))
+    names_found (ternary p x y) b h =
+        let w = neither (has_window p) (has_window x || has_window y) b in
+        let v = neither (has_window x) (has_window y) w.1 in
+        let inputs = inputs_none (refused p ++ refused x ++ refused y) _ h in
+        let first = nil_left (refused p ++ refused x) (refused y) inputs in
+        joined (leaf_names p) (leaf_names x ++ leaf_names y) (names_found p w.0 (nil_left (refused p) (refused x) first))
+        (joined (leaf_names x) (leaf_names y) (names_found x v.0 (nil_right (refused p) (refused x) first)) (names_found y v.1 (nil_right (refused p ++ refused x) (refused y) inputs)))
+    names_found (cast e k options) b h = names_found e b (inputs_none (refused e) _ h)
+    names_found (function es f) b h = all_names_found es b (inputs_none (all_refused es) _ h)
+    names_found (filter e by) b h =
+        let w = neither (has_window e) (has_window by) b in
+        let inputs = inputs_none (refused e ++ refused by) _ h in
+        joined (leaf_names e) (leaf_names by) (names_found e w.0 (nil_left (refused e) (refused by) inputs)) (names_found by w.1 (nil_right (refused e) (refused by) inputs))
+    names_found (slice e offset length) b h =
+        let w = neither (has_window e) (has_window offset || has_window length) b in
+        let v = neither (has_window offset) (has_window length) w.1 in
+        let inputs = inputs_none (refused e ++ refused offset ++ refused length) _ h in
+        let first = nil_left (refused e ++ refused offset) (refused length) inputs in
+        joined (leaf_names e) (leaf_names offset ++ leaf_names length) (names_found e w.0 (nil_left (refused e) (refused offset) first))
+        (joined (leaf_names offset) (leaf_names length) (names_found offset v.0 (nil_right (refused e) (refused offset) first)) (names_found length v.1 (nil_right (refused e ++ refused offset) (refused length) inputs)))
+    names_found (gather e idx one) b h =
+        let w = neither (has_window e) (has_window idx) b in
+        let inputs = inputs_none (refused e ++ refused idx) _ h in
+        joined (leaf_names e) (leaf_names idx) (names_found e w.0 (nil_left (refused e) (refused idx) inputs)) (names_found idx w.1 (nil_right (refused e) (refused idx) inputs))
+    names_found (sort e options) b h = names_found e b (inputs_none (refused e) _ h)
+    names_found (sort_by e by options) b h =
+        let w = neither (has_window e) (have_window by) b in
+        let inputs = inputs_none (refused e ++ all_refused by) _ h in
+        joined (leaf_names e) (all_leaf_names by) (names_found e w.0 (nil_left (refused e) (all_refused by) inputs)) (all_names_found by w.1 (nil_right (refused e) (all_refused by) inputs))
+    names_found (agg m e) b h = names_found e b (inputs_none (refused e) _ h)
+    names_found len b h = refl
+    names_found (window g keys order mapping) b h = cc
+
+    -- and so does each of some expressions
+    all_names_found : (ts : Trees) → have_window ts ≡ false → all_refused ts ≡ [] → unfound (all_leaf_names ts) ≡ []
+    all_names_found no_trees b h = refl
+    all_names_found (one_tree t ts) b h =
+        let w = neither (has_window t) (have_window ts) b in
+        joined (leaf_names t) (all_leaf_names ts) (names_found t w.0 (nil_left (refused t) (all_refused ts) h)) (all_names_found ts w.1 (nil_right (refused t) (all_refused ts) h))
+
 -- each column node of an expression that is not refused finds its column
 pub leaves_found : (cs : List Series) (t : Tree) → is_built_tree t ≡ true → refusals_of t (map column_field cs) Default ≡ [] → flat_map (unfound_refusal (alone cs)) (planned_over (map column_field cs) t).columns ≡ []
-leaves_found cs (column n) b h = ap (λ es. es ++ []) (name_found n cs (ColumnNotFound n) h)
-leaves_found cs (literal v) b h = refl
-leaves_found cs (alias e n) b h = leaves_found cs e b h
-leaves_found cs (agg m e) b h = leaves_found cs e (both (is_sum m) (is_built_tree e) b).1 (inputs_none (refusals_of e (map column_field cs) Default) _ h)
-leaves_found cs len b h = refl
-leaves_found cs _ b h = cc
+leaves_found cs t b h = names_found cs t (no_window t b) h
 
 no_misfit : (cs : List Series) (ns : List (List ℕ)) → list_any (is_misfit (alone cs)) ns ≡ false
 no_misfit cs [] = refl

@@ -11,7 +11,6 @@ use Rattle.px_value.specs.declared.error.InvalidWhy.TheVariants.{ListKey, Types}
 use Rattle.px_value.specs.declared.error.ComputeWhy.TheVariants.{AggScalar}
 use Rattle.px_value.specs.declared.method.GroupByMethod.{GroupByMethod}
 use Rattle.px_value.specs.declared.method.GroupByMethod.TheVariants.{Sum}
-use Rattle.px_tree.specs.Built.{is_sum}
 use Rattle.px_frame.specs.Cell.{Cell, unit, rows, list_of, value_of_cell}
 use Rattle.px_frame.specs.Frame.{look, height_of, subframe, first_repeat}
 use Rattle.px_frame.specs.Parts.{parts_of}
@@ -28,6 +27,11 @@ use Rattle.px_tree.specs.Step.{PlainStep, group}
 abbrev pub is_direct_key : Tree → Bool
 is_direct_key (column n) = true
 is_direct_key _ = false
+
+-- whether a reduction is the sum
+abbrev pub is_sum : GroupByMethod → Bool
+is_sum Sum = true
+is_sum _ = false
 
 -- the sum of a column, or the length
 abbrev pub is_direct_agg : Tree → Bool

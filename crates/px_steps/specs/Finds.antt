@@ -3,8 +3,9 @@ use Rattle.std.specs.Prelude.{◌≡◌, ◌⊎◌, ℕ, ◌^◌, ◌≤◌, Boo
 use Rattle.std.specs.List.{flat_map}
 use Rattle.std.specs.Option.{option_map_or}
 use Rattle.px_column.specs.Prelude.{Slot, Kind, lists, slot_fits, Series}
+use Rattle.px_column.specs.Operator.{is_boolean_kind}
 use Rattle.px_value.specs.declared.error.PxError.{PxError}
-use Rattle.px_value.specs.declared.error.PxError.TheVariants.{ComputeError, Duplicate, InvalidOperation, OutOfMemory}
+use Rattle.px_value.specs.declared.error.PxError.TheVariants.{ComputeError, Duplicate, InvalidOperation, SchemaMismatch, OutOfMemory}
 use Rattle.px_value.specs.declared.error.InvalidWhy.TheVariants.{ListKey}
 use Rattle.px_value.specs.declared.error.ComputeWhy.TheVariants.{TooLong}
 use Rattle.px_tree.specs.Built.{is_built_tree}
@@ -16,7 +17,7 @@ use Rattle.px_frame.specs.Frame.{first_repeat, has_height, height_of}
 use Rattle.px_frame.specs.Groups.{is_list}
 use Rattle.px_frame.specs.Schema.{column_field}
 use Rattle.px_frame.specs.Spread.{NamedCell}
-use Rattle.px_tree.specs.Node.{is_unit_cell}
+use Rattle.px_frame.specs.Cell.{is_unit_cell}
 use Rattle.px_tree.specs.Shape.{name_of}
 use Rattle.px_tree.specs.Tree.{Tree}
 use Rattle.px_tree.specs.Typing.{Scope, fails, kind_in, not_list, refusals_of, refused_where}
@@ -52,7 +53,11 @@ repeat_beside names es = option_map_or (λ n. Duplicate n ∷ []) (first_repeat 
 abbrev pub typed_key_refusals : Scope → Tree → List PxError
 typed_key_refusals scope e = refusals_of e scope Default ++ refused_where (fails not_list (kind_in e scope)) (InvalidOperation ListKey)
 
--- the faults of a key's value, also where it has not the frame's height
+-- why a mask is refused over these names and types: it is typed on the frame, and has truths
+abbrev pub mask_refusals : Scope → Tree → List PxError
+mask_refusals scope e = refusals_of e scope Default ++ refused_where (fails is_boolean_kind (kind_in e scope)) SchemaMismatch
+
+-- the faults of an expression's value, also where it has not the frame's height
 abbrev pub key_faults : Frame → Tree → List PxError
 key_faults frame e = faults_on e frame ++ height_fault frame (value_on e frame)
 

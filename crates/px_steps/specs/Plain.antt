@@ -17,7 +17,7 @@ use Rattle.px_frame.specs.Groups.{first_row}
 use Rattle.px_frame.specs.Parts.{parts_of}
 use Rattle.px_frame.specs.Schema.{column_field}
 use Rattle.px_frame.specs.Spread.{NamedCell, spread, spread_column, spread_all, rows_beside, assembled}
-use Rattle.px_tree.specs.Node.{kept_rows}
+use Rattle.px_column.specs.Rows.{kept_rows}
 use Rattle.px_tree.specs.Partition.{is_elementwise, is_partition_safe}
 use Rattle.px_tree.specs.Shape.{is_unit, name_of}
 use Rattle.px_tree.specs.Size.{size_on}

@@ -24,10 +24,10 @@ ghost use Rattle.px_steps.specs.Plain.{agg_refusals, aggregated_on, columns_on, 
 ghost use Rattle.px_tree.specs.Step.{group};
 
 use crate::aggregation::aggregate;
-use crate::planning::{add_names, cell_on, plan_expr};
+use crate::planning::{add_names, spread_value};
 use indexmap::IndexSet;
 use px_column::{Column, ComputeWhy, InvalidWhy, Px, PxError, Steps};
-use px_frame::{DataFrame, GroupPositions, SchemaRef, group_by, key_rows, spread};
+use px_frame::{DataFrame, GroupPositions, SchemaRef, group_by, key_rows};
 use px_plan::{Context, Expr, type_of};
 use px_window::ExecutionState;
 use std::alloc::Global;
@@ -104,28 +104,6 @@ fn accept_step(alloc: Global, frame: &DataFrame, keys: &[Expr], aggs: &[Expr]) -
     Ok(schema)
 }
 
-/// A key's values, brought to the frame's height.
-fn key_column<L: Ledger, M: Ledger>(
-    alloc: Global,
-    frame: &DataFrame,
-    key: &Expr,
-    schema: &SchemaRef,
-    state: &mut ExecutionState,
-    kernels: &mut Steps<L>,
-    groupings: &mut Steps<M>,
-) -> Px<Column>
-    requires built { is_built_tree (tree key.now) ≡ true }
-    requires scope { schema.now.value ≡ map column_field frame.now }
-    requires accepted { key_refusals (alone frame.now) (tree key.now) ≡ [] }
-    ensures answer { Finds result (key_on (alone frame.now) (tree key.now)) (key_faults (alone frame.now) (tree key.now)) (size_on (tree key.now) (alone frame.now ∷ [])) }
-    ensures state { state.new ≡ state.old }
-    ensures grouped { groupings.new ≡ groupings.old }
-{
-    let node = plan_expr(alloc, key, schema, Context::Default)?;
-    let cell = cell_on(alloc, frame, &node, state, kernels, groupings)?;
-    spread(alloc, cell, frame.height())
-}
-
 /// The keys' values, each brought to the frame's height.
 fn key_columns<L: Ledger, M: Ledger>(
     alloc: Global,
@@ -146,7 +124,7 @@ fn key_columns<L: Ledger, M: Ledger>(
 {
     let mut columns = Vec::with_capacity(alloc, keys.len())?;
     for key in keys {
-        columns.push(key_column(alloc, frame, key, schema, state, kernels, groupings)?)?;
+        columns.push(spread_value(alloc, frame, key, schema, state, kernels, groupings)?)?;
     }
     Ok(columns)
 }

@@ -2,6 +2,7 @@
 #![tactic(auto)]
 
 mod aggregation;
+mod filter_step;
 mod group_step;
 mod planning;
 mod reply;

@@ -1,24 +1,26 @@
 //! Expressions as nodes, and what these give on a frame.
-ghost use Rattle.std.specs.Prelude.{◌≡◌, ◌++◌, [], Some, IfOk, IfErr, OnOk, map, true};
+ghost use Rattle.std.specs.Prelude.{◌≡◌, ◌++◌, ◌∷◌, [], Some, IfOk, IfErr, OnOk, map, true};
 ghost use Rattle.px_tree.specs.Built.{is_built_tree};
 ghost use Rattle.px_expr.specs.NodeView.{plan_of};
 ghost use Rattle.px_expr.specs.Plan.{planned_over};
 ghost use Rattle.px_expr.specs.Value.{IsCause};
 ghost use Rattle.px_frame.specs.CellView.{named_cell};
 ghost use Rattle.px_frame.specs.External.{alone};
-ghost use Rattle.px_tree.specs.Node.{is_unit_cell};
+ghost use Rattle.px_frame.specs.Cell.{is_unit_cell};
+ghost use Rattle.px_frame.specs.Schema.{column_field};
 ghost use Rattle.px_tree.specs.Shape.{is_unit, name_of};
+ghost use Rattle.px_tree.specs.Size.{size_on};
 ghost use Rattle.px_tree.specs.Typing.{refusals_of};
 ghost use Rattle.px_tree.specs.Value.{faults_on};
 ghost use Rattle.px_tree.specs.View.{tree};
-ghost use Rattle.px_steps.specs.Finds.{repeat_beside};
+ghost use Rattle.px_steps.specs.Finds.{Finds, key_faults, repeat_beside};
 ghost use Rattle.px_steps.specs.Meets.{Meets, MeetsBy};
-ghost use Rattle.px_steps.specs.Plain.{named_value};
+ghost use Rattle.px_steps.specs.Plain.{frame_refusals, key_on, named_value};
 
 use indexmap::IndexSet;
-use px_column::{Name, Px, PxError, Steps};
+use px_column::{Column, Name, Px, PxError, Steps};
 use px_expr::{ExpressionConversionState, PhysExpr, PhysicalExpr, create_physical_expr};
-use px_frame::{Cell, DataFrame, SchemaRef, UnitColumn, add_name};
+use px_frame::{Cell, DataFrame, SchemaRef, UnitColumn, add_name, spread};
 use px_plan::{Arena, Context, Expr, ExprIR, fits_arena, output_name, to_arena};
 use px_window::ExecutionState;
 use std::alloc::Global;
@@ -78,4 +80,26 @@ pub(crate) fn cell_on<L: Ledger, M: Ledger>(
     } else {
         Ok(Cell::Rows(column))
     }
+}
+
+/// The value of an expression that is not refused, brought to the frame's height.
+pub(crate) fn spread_value<L: Ledger, M: Ledger>(
+    alloc: Global,
+    frame: &DataFrame,
+    expr: &Expr,
+    schema: &SchemaRef,
+    state: &mut ExecutionState,
+    kernels: &mut Steps<L>,
+    groupings: &mut Steps<M>,
+) -> Px<Column>
+    requires built { is_built_tree (tree expr.now) ≡ true }
+    requires scope { schema.now.value ≡ map column_field frame.now }
+    requires accepted { frame_refusals (alone frame.now) (tree expr.now) ≡ [] }
+    ensures answer { Finds result (key_on (alone frame.now) (tree expr.now)) (key_faults (alone frame.now) (tree expr.now)) (size_on (tree expr.now) (alone frame.now ∷ [])) }
+    ensures state { state.new ≡ state.old }
+    ensures grouped { groupings.new ≡ groupings.old }
+{
+    let node = plan_expr(alloc, expr, schema, Context::Default)?;
+    let cell = cell_on(alloc, frame, &node, state, kernels, groupings)?;
+    spread(alloc, cell, frame.height())
 }

@@ -8,6 +8,7 @@ ghost use Rattle.px_steps.specs.Causes.{AreRun, IsCauseIn, StepAnswers, StepsAns
 ghost use Rattle.px_steps.specs.Plain.{AreValid, groupings_in, groupings_of, plain_on};
 ghost use Rattle.px_tree.specs.Step.{step_view};
 
+use crate::filter_step::filter_step;
 use crate::group_step::group_step;
 use crate::select_step::select_step;
 use px_column::{Px, Steps};
@@ -33,10 +34,10 @@ fn run_step<L: Ledger, M: Ledger>(
 {
     match step {
         Step::Select(exprs) => select_step(alloc, frame, exprs, state, kernels, groupings),
+        Step::Filter(mask) => filter_step(alloc, frame, mask, state, kernels, groupings),
         Step::GroupAgg { keys, aggs, .. } => {
             group_step(alloc, frame, keys, aggs, state, kernels, groupings)
         }
-        Step::Filter(_) => unreachable!(),
     }
 }
 

@@ -1,0 +1,100 @@
+-- A filter step's mask, and what the step answers.
+use Rattle.std.proofs.Common.{◌≡◌, ◌⊎◌, inl, inr, ◌<◌, ◌^◌, ◌==◌, Bool, true, false, not, List, [], ◌∷◌, ◌++◌, Option, Some, None, Result, Ok, Err, length, map, refl, sym, ◌∙◌, ap, subst, arith, option_map, option_and_then, if◌then◌else◌}
+use Rattle.std.specs.Prelude.{IfOk}
+use Rattle.std.specs.Result.{result_ok}
+use Rattle.std.proofs.lemmas.Bool.Decides.{nat_tests}
+use Rattle.px_column.specs.Prelude.{Answers, Refuses, Slot, Kind, Series}
+use Rattle.px_column.specs.Operator.{is_boolean_kind}
+use Rattle.px_value.specs.declared.error.PxError.{PxError}
+use Rattle.px_value.specs.declared.error.PxError.TheVariants.{OutOfMemory, SchemaMismatch, ShapeMismatch}
+use Rattle.px_frame.specs.External.{alone}
+use Rattle.px_frame.specs.Frame.{height_of, kept_frame, kept_series}
+use Rattle.px_frame.specs.Schema.{column_field}
+use Rattle.px_frame.specs.Spread.{NamedCell, spread, spread_column, with_slots}
+use Rattle.px_tree.specs.Built.{is_built_tree}
+use Rattle.px_tree.specs.Size.{size_on}
+use Rattle.px_tree.specs.Step.{filter}
+use Rattle.px_tree.specs.Tree.{Tree}
+use Rattle.px_tree.specs.Typing.{Scope, fails, kind_in, refusals_of, refused_where, type_of}
+use Rattle.px_tree.specs.declared.context.Context.TheVariants.{Default}
+use Rattle.px_steps.specs.Causes.{IsStepCause, StepAnswers}
+use Rattle.px_steps.specs.Finds.{Lacks, key_faults, mask_refusals}
+use Rattle.px_steps.specs.Meets.{IsFirst}
+use Rattle.px_steps.specs.Plain.{columns_made, first_of, first_refusal, kept, key_on, misfit_faults, named_value, step_on}
+use Rattle.px_tree.proofs.KindLaws.{none_left as nil_left, none_right as nil_right}
+use Rattle.px_steps.proofs.Columns.{and_then_some}
+use Rattle.px_steps.proofs.GroupStep.{spread_made, type_refused}
+use Rattle.px_steps.proofs.Grouping.{no_refusal, value_there}
+use Rattle.px_steps.proofs.Named.{IsFirst_append}
+use Rattle.px_steps.proofs.Selected.{no_misfits, one_left, refusal_cause}
+
+-- the first refusal of a mask in place of its type
+pub mask_refused : (e : PxError) (t : Tree) (scope : Scope) → is_built_tree t ≡ true → Refuses e (type_of t scope Default) → IsFirst e (mask_refusals scope t)
+mask_refused e t scope b h = IsFirst_append e (refusals_of t scope Default) _ (type_refused e t scope Default b h)
+
+-- a mask whose type is not refused has truths
+has_truths : (k : Kind) (o : Option Kind) → o ≡ Some k → refused_where (fails is_boolean_kind o) SchemaMismatch ≡ [] → is_boolean_kind k ≡ true
+has_truths k None e h = cc
+has_truths k (Some j) e h = let same : j ≡ k = cc in ap is_boolean_kind (sym same) ∙ by (is_boolean_kind j) h
+  where
+    by : (b : Bool) → refused_where (not b) SchemaMismatch ≡ [] → b ≡ true
+    by true h = refl
+    by false h = cc
+
+-- the places of a value that is brought to a height
+slots_made : (c : NamedCell) (q : Result (List Slot) PxError) (s : Series) → result_ok (with_slots c q) ≡ Some s → result_ok q ≡ Some s.slots
+slots_made c (Ok xs) s h = let same : record { name = c.name; kind = c.kind; slots = xs } ≡ s = cc in ap (λ (x : Series). Some x.slots) same
+slots_made c (Err e) s h = cc
+
+-- a mask of truths that has the frame's height keeps rows
+keeps : (cs : List Series) (mask : Series) → is_boolean_kind mask.kind ≡ true → length mask.slots ≡ height_of cs → kept_frame cs mask ≡ Ok (map (kept_series mask.slots) cs)
+keeps cs mask k h =
+    let high : (length mask.slots == height_of cs) ≡ true = grind (arith, nat_tests) in
+    let rows : Result (List Series) PxError = Ok (map (kept_series mask.slots) cs) in
+    ap (λ (b : Bool). if b then (if length mask.slots == height_of cs then rows else Err ShapeMismatch) else Err SchemaMismatch) k ∙ ap (λ (b : Bool). if b then rows else Err ShapeMismatch) high
+
+-- the first refusal of a mask is the step's
+pub mask_cause : (e : PxError) (t : Tree) (cs : List Series) (scope : Scope) → scope ≡ map column_field cs → IsFirst e (mask_refusals scope t) → (e ≡ OutOfMemory) ⊎ IsStepCause e (filter t) (alone cs)
+mask_cause e t cs scope is h = refusal_cause e (filter t) (alone cs) (subst (λ (s : Scope). IsFirst e (mask_refusals s t)) is h)
+
+-- over the frame's names and types a mask is not refused
+pub mask_accepted : (t : Tree) (cs : List Series) (scope : Scope) → scope ≡ map column_field cs → mask_refusals scope t ≡ [] → mask_refusals (map column_field cs) t ≡ []
+mask_accepted t cs scope is n = ap (λ (s : Scope). mask_refusals s t) (sym is) ∙ n
+
+module _ (t : Tree) (cs : List Series) (none : mask_refusals (map column_field cs) t ≡ []) where
+  pub mask_typed : refusals_of t (map column_field cs) Default ≡ []
+  mask_typed = nil_left (refusals_of t (map column_field cs) Default) _ none
+
+  accepted : first_refusal (filter t) (alone cs) ≡ None
+  accepted = ap first_of none
+
+  -- why a mask that is not refused has no value of the frame's height
+  pub lacks_cause : (e : PxError) → Lacks e (key_faults (alone cs) t) (size_on t (alone cs ∷ [])) → (e ≡ OutOfMemory) ⊎ IsStepCause e (filter t) (alone cs)
+  lacks_cause e (inl m) = inl m
+  lacks_cause e (inr (inl o)) = inr (inr (accepted, inl (one_left e (key_faults (alone cs) t) (misfit_faults (alone cs) (t ∷ [])) o)))
+  lacks_cause e (inr (inr l)) = inr (inr (accepted, inr (l.0, omega (arith, l.1))))
+
+  module _ (mask : Series) (found : key_on (alone cs) t ≡ Some mask) where
+    -- the cell that was brought to the frame's height
+    cell : (c : NamedCell) × (named_value (alone cs) t ≡ Some c) × (result_ok (spread_column (height_of cs) c) ≡ Some mask)
+    cell = and_then_some (named_value (alone cs) t) (λ c. result_ok (spread_column (height_of cs) c)) mask found
+
+    made : step_on (filter t) (alone cs) ≡ Some (alone (map (kept_series mask.slots) cs))
+    made =
+        let whole : columns_made (filter t) (alone cs) ≡ Some (map (kept mask.slots) cs)
+        = ap (λ o. option_and_then (λ x. option_and_then (λ xs. Some (map (kept xs) cs)) (result_ok (spread (height_of cs) x))) o) (value_there (alone cs) t cell.0 cell.1).0
+        ∙ ap (λ o. option_and_then (λ xs. Some (map (kept xs) cs)) o) (slots_made cell.0 (spread (height_of cs) cell.0.cell) mask cell.2) in
+        ap (λ o. option_map (λ columns. record (alone cs) { columns = columns }) o) whole
+
+    keeps_rows : kept_frame cs mask ≡ Ok (map (kept_series mask.slots) cs)
+    keeps_rows =
+        let brought = spread_made (height_of cs) cell.0 mask cell.2 in
+        let kind = (value_there (alone cs) t cell.0 cell.1).1 in
+        keeps cs mask (ap is_boolean_kind brought.1 ∙ has_truths cell.0.kind (kind_in t (map column_field cs)) kind (nil_right (refusals_of t (map column_field cs) Default) _ none)) brought.2
+
+    -- the frame of the rows that are kept
+    pub rows_kept : (r : Result (List Series) PxError) → key_faults (alone cs) t ≡ [] → Answers r (kept_frame cs mask) → IfOk r (λ f. height_of f < 2 ^ 32) → StepAnswers r (filter t) cs
+    rows_kept (Ok f) sound a short =
+        let same : map (kept_series mask.slots) cs ≡ f = cc (keeps_rows, a) in
+        record { accepted = accepted; sound = λ i. sound i ++ no_misfits cs (t ∷ []) i; made = made ∙ ap (λ (x : List Series). Some (alone x)) same; short = short }
+    rows_kept (Err e) sound a short = inl (no_refusal e (kept_frame cs mask) _ keeps_rows a)
