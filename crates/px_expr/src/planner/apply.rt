@@ -10,13 +10,13 @@ ghost use Rattle.px_expr.specs.Parts.{call_in, call_on, plan_trees, plan_columns
 use crate::apply::ApplyExpr;
 use crate::phys_expr::PhysExpr;
 use crate::physical::PhysicalExpr;
-use px_column::{DataType, Px};
+use px_column::{DataType, Name, Px};
 use px_frame::{Field, SchemaRef};
-use px_plan::{Expr, FunctionExpr, output_name};
+use px_plan::{Expr, FunctionExpr};
 use std::alloc::Global;
 
-/// A function of nodes, with the expression of that call. The field has the expression's name and no
-/// type: it is a hint, and typing each node anew would take too long.
+/// A function of nodes, with the expression of that call. The field has no name and no type: it is a
+/// hint, and to find them at each node would not be linear in the expression.
 pub(crate) fn plan_apply(
     alloc: Global,
     inputs: Vec<PhysExpr>,
@@ -28,11 +28,10 @@ pub(crate) fn plan_apply(
     requires function { called (call_in (tree expr.now)) ≡ function }
     ensures { AnswersBy plan_of result (Ok (record { tree = tree expr.now; columns = plan_columns (map plan_of inputs.items) })) }
 {
-    let name = output_name(alloc, expr)?;
     let expr = expr.try_clone(alloc)?;
     let returns_scalar = is_scalar_call(function, &inputs);
     let output_field = Field {
-        name,
+        name: Name::new(alloc, "")?,
         dtype: DataType::Null,
     };
     let input_schema = schema.clone()?;
