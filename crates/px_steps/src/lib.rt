@@ -16,6 +16,6 @@ pub use px_ends::{
     LIMIT, MemorySink, MemorySource, Sink, SinkFailed, Source, SourceFailed, StdinSource,
     StdoutSink,
 };
-pub use px_tree::Step;
+pub use px_tree::{Step, are_built};
 pub use runner::run_steps;
 pub use status::Status;

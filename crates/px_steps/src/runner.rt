@@ -64,7 +64,8 @@ fn run_each<L: Ledger, M: Ledger>(
 
 /// The frame that the steps make, each from the frame of those before it; with no step an equal frame.
 /// The first step that is refused, has a fault or has 2^32 values or more decides, and no step after
-/// it is run; what is told of it is its first refusal, or else one of its faults, or `TooLong`.
+/// it is run; what is told of it is its first refusal, or else one of its faults, or `TooLong`. The
+/// steps are ones that are run today, which `are_built` tests.
 pub fn run_steps<L: Ledger, M: Ledger>(
     alloc: Global,
     frame: &DataFrame,
