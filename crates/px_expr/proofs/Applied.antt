@@ -1,5 +1,5 @@
 -- The value and the causes of a function, from the cells of its inputs.
-use Rattle.std.proofs.Common.{◌≡◌, ℕ, ◌+◌, ◌<◌, ◌≤◌, ◌^◌, Bool, true, false, not, ◌&&◌, ◌||◌, nat_lt, nat_eq, cond, List, [], ◌∷◌, ◌++◌, Option, Some, None, Result, Ok, Err, ◌⊎◌, inl, inr, length, map, refl, sym, ◌∙◌, ap, subst, arith}
+use Rattle.std.proofs.Common.{◌≡◌, ℕ, ◌≤◌, ◌^◌, Bool, true, false, not, ◌&&◌, nat_lt, nat_eq, cond, List, [], ◌∷◌, ◌++◌, Some, Result, Ok, Err, ◌⊎◌, inl, inr, length, map, refl, sym, ◌∙◌, ap, subst, arith}
 use Rattle.std.specs.List.{list_any}
 use Rattle.std.proofs.lemmas.Bool.{ltb-false}
 use Rattle.px_column.specs.Exploded.{element_kind}
@@ -19,15 +19,14 @@ use Rattle.px_nodes.specs.Named.{function_named, kinds_of, cells_in, first_name,
 use Rattle.px_column.specs.Function.{between_slot, is_null_slot, is_not_null_slot, not_slot, in_slot}
 use Rattle.px_tree.specs.Node.{function_cell, map_cell, zip_three_cells}
 use Rattle.px_tree.specs.Shape.{is_unit_call, is_unit_first, are_units}
-use Rattle.px_tree.specs.Shape.{first_name as first_tree_name}
 use Rattle.px_tree.specs.Size.{count_on, size_on, sizes_on}
-use Rattle.px_tree.specs.Tree.{Tree, Trees, Call, called, function, no_trees, one_tree}
+use Rattle.px_tree.specs.Tree.{Tree, Trees, called, no_trees, one_tree}
 use Rattle.px_tree.specs.Typing.{function_kind, is_one_input_missing, or_first, own_refusals, refused_where}
 use Rattle.px_tree.specs.Value.{fault_in, faults_on, all_faults_on, first_kind, outcome_on}
 use Rattle.px_tree.specs.Value.{made as valued}
 use Rattle.px_tree.specs.declared.context.Context.TheVariants.{Default}
 use Rattle.px_tree.specs.declared.function.FunctionExpr.{FunctionExpr}
-use Rattle.px_tree.specs.declared.function.FunctionExpr.TheVariants.{IsNull, IsNotNull, Not, IsBetween, IsIn, Reverse, Shift, DropNulls, NullCount, Explode}
+use Rattle.px_tree.specs.declared.function.FunctionExpr.TheVariants.{IsNull, IsNotNull, Not, IsBetween, IsIn, Explode}
 use Rattle.px_expr.specs.Parts.{PlannedApply, apply_plan, plan_trees}
 use Rattle.px_expr.specs.Planned.{Planned}
 use Rattle.px_expr.specs.Value.{AreCellsOf, IsCause, IsCauseOfAny, IsOneOf, IsValue, causes_on}

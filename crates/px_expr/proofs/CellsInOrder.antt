@@ -6,7 +6,7 @@ use Rattle.px_frame.specs.CellView.{named_cell}
 use Rattle.px_frame.specs.External.{Frame}
 use Rattle.px_frame.specs.Spread.{NamedCell}
 use Rattle.px_frame.specs.declared.cell.Cell.{Cell}
-use Rattle.px_tree.specs.Cost.{all_ticks_of, are_flat_rows, cost_on, is_flat, is_flat_rows, ticks_of}
+use Rattle.px_tree.specs.Cost.{all_ticks_of, are_flat_rows, cost_on, is_flat_rows, ticks_of}
 use Rattle.px_tree.specs.Nodes.{all_nodes_of, nodes_of}
 use Rattle.px_tree.specs.Partition.{is_row_function}
 use Rattle.px_tree.specs.Tree.{Call, Tree, Trees, called, function, sort_by}

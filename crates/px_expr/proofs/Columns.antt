@@ -1,10 +1,10 @@
 -- What a column node finds, and what its column is.
-use Rattle.std.proofs.Common.{◌≡◌, ◌==◌, ℕ, zero, suc, Bool, true, false, cond, ◌&&◌, ◌||◌, List, [], ◌∷◌, ◌++◌, Option, Some, None, Ok, Err, Result, Bor, IfSome, IfOk, inl, inr, drop, map, option_map, is_none, refl, sym, ◌∙◌, ap, arith}
+use Rattle.std.proofs.Common.{◌≡◌, ◌==◌, ℕ, zero, suc, Bool, true, false, cond, ◌&&◌, ◌||◌, List, [], ◌∷◌, ◌++◌, Option, Some, None, Ok, Err, Result, Bor, IfSome, IfOk, inl, drop, map, option_map, is_none, refl, sym, ◌∙◌, ap, arith}
 use Rattle.std.specs.List.{find, list_any, flat_map}
 use Rattle.std.proofs.lemmas.Bool.Decides.{nat_tests}
 use Rattle.px_column.specs.Prelude.{Series, Answers, AnswersBy, Kind}
-use Rattle.px_frame.specs.External.{Frame, alone, scope_of, look_in}
-use Rattle.px_frame.specs.Frame.{look, has_name, name_eq, names_of, first_repeat, IsFrame}
+use Rattle.px_frame.specs.External.{alone}
+use Rattle.px_frame.specs.Frame.{look, name_eq, names_of, first_repeat, IsFrame}
 use Rattle.px_frame.specs.Schema.{FieldKind, column_field, has_field_name}
 use Rattle.px_tree.specs.Tree.{column}
 use Rattle.px_frame.specs.SchemaView.{field_kind}
@@ -15,8 +15,7 @@ use Rattle.px_tree.specs.Typing.{kind_of_name, refused_where}
 use Rattle.px_tree.specs.Value.{has_misfit}
 use Rattle.px_expr.specs.Planned.{Planned, PlannedColumn, found_by}
 use Rattle.px_expr.specs.Live.{field_on}
-use Rattle.px_expr.specs.Value.{IsValue, IsOneOf, IsCause, causes_on, unfound_refusal}
-use Rattle.px_value.proofs.FitLaws.{both as both_true}
+use Rattle.px_expr.specs.Value.{IsValue, IsOneOf, causes_on, unfound_refusal}
 use Rattle.px_frame.proofs.LookLaws.{field_look, names_same}
 
 -- a name passes its own test

@@ -1,10 +1,9 @@
 -- What the values and the causes of a list of inputs say of a node over them.
-use Rattle.std.proofs.Common.{◌≡◌, ℕ, ◌≤◌, ◌^◌, Bool, true, false, ◌&&◌, ◌||◌, List, [], ◌∷◌, ◌++◌, Option, Some, None, ◌⊎◌, inl, inr, max, map, refl, sym, ◌∙◌, ap, subst, arith}
-use Rattle.std.specs.List.{flat_map, list_any, list_all}
+use Rattle.std.proofs.Common.{◌≡◌, ℕ, ◌≤◌, ◌^◌, Bool, true, false, ◌&&◌, ◌||◌, List, [], ◌∷◌, ◌++◌, Some, ◌⊎◌, inl, inr, refl, sym, ◌∙◌, subst, arith}
+use Rattle.std.specs.List.{flat_map, list_any}
 use Rattle.std.proofs.lemmas.Grind.{flat_map-append}
 use Rattle.px_value.specs.declared.error.PxError.{PxError}
 use Rattle.px_value.specs.declared.error.PxError.TheVariants.{ColumnNotFound, Duplicate, InvalidOperation, ComputeError, OutOfBounds, ShapeMismatch, SchemaMismatch, OutOfMemory}
-use Rattle.px_value.specs.declared.error.InvalidWhy.{InvalidWhy}
 use Rattle.px_value.specs.declared.error.ComputeWhy.TheVariants.{AggLiteral, AggScalar, SingleIndex, NoKey, NotPartitionSafe, SliceArgument, NullIndex, RangeBound, WindowLength, ChunkLengths, TooLong, DepthText, Interrupted}
 use Rattle.px_frame.specs.Cell.{Cell, is_unit_cell}
 use Rattle.px_frame.specs.External.{Frame, scope_of}
@@ -14,7 +13,7 @@ use Rattle.px_tree.specs.Nodes.{leaf_names, all_leaf_names}
 use Rattle.px_tree.specs.Shape.{is_unit_first, are_units}
 use Rattle.px_tree.specs.Shape.{first_name as first_tree_name}
 use Rattle.px_tree.specs.Size.{size_on, sizes_on}
-use Rattle.px_tree.specs.Tree.{Tree, Trees, no_trees, one_tree}
+use Rattle.px_tree.specs.Tree.{Trees, no_trees, one_tree}
 use Rattle.px_tree.specs.Typing.{refusals_of, all_refusals_of, kinds_in, or_first, refused_where}
 use Rattle.px_tree.specs.Value.{cells_on, faults_on, all_faults_on, has_misfit, is_misfit}
 use Rattle.px_tree.specs.declared.context.Context.TheVariants.{Default}

@@ -1,5 +1,5 @@
 -- Fronts of names that were added.
-use Rattle.std.proofs.Common.{◌≡◌, ℕ, zero, suc, List, [], ◌∷◌, ◌++◌, None, Result, Ok, Err, OnErr, take, length, refl, sym, ◌∙◌, ap}
+use Rattle.std.proofs.Common.{◌≡◌, ℕ, zero, suc, List, [], ◌∷◌, ◌++◌, None, take, length, refl, sym, ◌∙◌, ap}
 use Rattle.px_tree.specs.Tree.{Tree, alias}
 use Rattle.px_expr.specs.Inline.{inline_on}
 use Rattle.px_expr.specs.Live.{added, AddsFront, live_names}

@@ -1,5 +1,5 @@
 -- Nodes over nodes that were planned over one schema.
-use Rattle.std.proofs.Common.{◌≡◌, ℕ, List, [], ◌∷◌, ◌++◌, Result, Ok, Err, map, refl, sym, ◌∙◌, ap, subst}
+use Rattle.std.proofs.Common.{◌≡◌, ℕ, List, ◌++◌, Result, Ok, map, refl, sym, ◌∙◌, ap, subst}
 use Rattle.std.proofs.lemmas.List.{map-append}
 use Rattle.px_column.specs.Prelude.{Answers, AnswersBy}
 use Rattle.px_value.specs.declared.error.PxError.{PxError}
@@ -9,7 +9,7 @@ use Rattle.px_tree.specs.Tree.{Tree, Trees, Call, no_trees, one_tree, function, 
 use Rattle.px_tree.specs.Typing.{Scope}
 use Rattle.px_tree.specs.View.{tree, trees, agg_step, tree_step, trees_step}
 use Rattle.px_tree.specs.declared.expr.AggExpr.TheOpen.{Expr-F}
-use Rattle.px_tree.specs.declared.expr.Expr.{Expr, fold-roll-Expr}
+use Rattle.px_tree.specs.declared.expr.Expr.{fold-roll-Expr}
 use Rattle.px_tree.specs.declared.expr.Expr.TheVariants.{Function, rolls-Function}
 use Rattle.px_tree.specs.declared.expr.Exprs.{Exprs}
 use Rattle.px_tree.specs.declared.function.FunctionExpr.{FunctionExpr}

@@ -1,7 +1,7 @@
 -- The value and the causes of rows in the order of others, from the cells of their inputs.
-use Rattle.std.proofs.Common.{◌≡◌, ℕ, ◌≤◌, ◌^◌, Bool, true, false, ◌&&◌, cond, List, [], ◌∷◌, ◌++◌, Some, Result, Ok, Err, ◌⊎◌, inl, inr, length, map, refl, sym, ◌∙◌, ap, subst, arith}
+use Rattle.std.proofs.Common.{◌≡◌, ℕ, ◌≤◌, ◌^◌, Bool, true, false, cond, List, [], ◌∷◌, Some, Result, Ok, Err, ◌⊎◌, inl, inr, length, refl, sym, ◌∙◌, ap, subst, arith}
 use Rattle.std.specs.List.{list_any}
-use Rattle.px_column.specs.Prelude.{Kind, Slot, Refuses, is_list_kind}
+use Rattle.px_column.specs.Prelude.{Slot, Refuses, is_list_kind}
 use Rattle.px_column.specs.Order.{sort_keys, sorted_rows}
 use Rattle.px_column.specs.Result.{◌>>=◌}
 use Rattle.px_value.specs.declared.error.PxError.{PxError}
@@ -13,13 +13,12 @@ use Rattle.px_frame.specs.Frame.{slots_at}
 use Rattle.px_frame.specs.Spread.{NamedCell, column_of_cell, spread}
 use Rattle.px_nodes.specs.Named.{cells_in, kinds_of, sort_by_named, under}
 use Rattle.px_tree.specs.Node.{sort_by_cell, spread_keys}
-use Rattle.px_tree.specs.Size.{size_on, sizes_on}
-use Rattle.px_tree.specs.Typing.{or_first, own_refusals, refused_where}
+use Rattle.px_tree.specs.Size.{sizes_on}
+use Rattle.px_tree.specs.Typing.{own_refusals}
 use Rattle.px_tree.specs.Value.{all_faults_on, fault_in, faults_on, outcome_on}
 use Rattle.px_tree.specs.Value.{made as valued}
 use Rattle.px_tree.specs.declared.context.Context.TheVariants.{Default}
 use Rattle.px_expr.specs.Parts.{PlannedSortBy, plan_trees, sort_by_plan}
-use Rattle.px_expr.specs.Planned.{Planned}
 use Rattle.px_expr.specs.Value.{AreCellsOf, IsCause, IsCauseOfAny, IsCellOf, IsOneOf, IsValue, causes_on}
 use Rattle.px_expr.proofs.Applied.{cell_back, invalid_cause, shape_cause, spread_refused}
 use Rattle.px_expr.proofs.InputLists.{AreInputs, among_right, cause_of_first, cause_of_inputs, cause_of_others, inputs_of}

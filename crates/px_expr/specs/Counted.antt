@@ -1,7 +1,7 @@
 -- How often kernels ran while expressions were evaluated.
 use Rattle.std.specs.Prelude.{◌≡◌, ℕ, ◌+◌, ◌≤◌, true, IfSome}
 use Rattle.px_frame.specs.External.{Frame}
-use Rattle.px_tree.specs.Cost.{is_flat, is_flat_rows, are_flat_rows, ticks_of, all_ticks_of, cost_on}
+use Rattle.px_tree.specs.Cost.{is_flat, are_flat_rows, ticks_of, all_ticks_of, cost_on}
 use Rattle.px_tree.specs.Nodes.{all_nodes_of}
 use Rattle.px_tree.specs.Tree.{Tree, Trees}
 

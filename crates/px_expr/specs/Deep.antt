@@ -1,5 +1,5 @@
 -- A node's children are smaller than the node.
-use Rattle.std.specs.Prelude.{⊤, ◌≡◌, ℕ, ◌+◌, ◌≤◌, List, [], ◌∷◌, map, max}
+use Rattle.std.specs.Prelude.{⊤, ◌≡◌, ◌+◌, ◌≤◌, List, [], ◌∷◌, map}
 use Rattle.std.proofs.Common.{arith}
 use denote.Param.Weighed.{most}
 use Rattle.px_tree.specs.Nodes.{nodes_of, all_nodes_of}

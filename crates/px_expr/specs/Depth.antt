@@ -1,5 +1,5 @@
 -- How deep an expression is, and the limit that a text sets.
-use Rattle.std.specs.Prelude.{ℕ, zero, suc, ◌+◌, ◌^◌, Bool, true, false, max, nat_le, nat_lt, List, Option, Some, None, Result, Ok, Err, if◌then◌else◌}
+use Rattle.std.specs.Prelude.{ℕ, zero, suc, ◌+◌, ◌^◌, Bool, false, max, nat_le, nat_lt, List, Option, Some, None, Result, Ok, Err, if◌then◌else◌}
 use Rattle.std.specs.Str.Parse.{without_leading_plus}
 use Rattle.px_column.specs.Cast.{natural_of}
 use Rattle.px_value.specs.declared.error.PxError.{PxError}

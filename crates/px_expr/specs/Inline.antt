@@ -1,8 +1,7 @@
 -- Values without a frame.
-use Rattle.std.specs.Prelude.{ℕ, zero, suc, Bool, true, false, [], Option, None, if◌then◌else◌}
+use Rattle.std.specs.Prelude.{ℕ, suc, Bool, true, false, [], Option, None, if◌then◌else◌}
 use Rattle.px_column.specs.Prelude.{Series}
 use Rattle.px_frame.specs.External.{alone}
-use Rattle.px_tree.specs.Shape.{is_single}
 use Rattle.px_tree.specs.Tree.{Tree, Literal, range, literal, alias}
 use Rattle.px_expr.specs.Value.{column_on}
 

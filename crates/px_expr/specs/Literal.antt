@@ -1,5 +1,5 @@
 -- The columns of literals.
-use Rattle.std.specs.Prelude.{ℕ, ◌^◌, ℤ, ◌-ℤ◌, ◌&&◌, nat_lt, codes, List, [], ◌∷◌, Option, Some, None, Result, Ok, Err, if◌then◌else◌}
+use Rattle.std.specs.Prelude.{◌^◌, ℤ, ◌-ℤ◌, ◌&&◌, nat_lt, codes, [], ◌∷◌, Option, Some, None, Result, Ok, Err, if◌then◌else◌}
 use Rattle.px_column.specs.Prelude.{integer, Kind, fits, Series}
 use Rattle.px_value.specs.declared.error.PxError.{PxError}
 use Rattle.px_value.specs.declared.error.PxError.TheVariants.{InvalidOperation, ComputeError}

@@ -1,5 +1,5 @@
 -- What a node tells of its expression.
-use Rattle.std.specs.Prelude.{◌≡◌, ℕ, Bool, true, false, List, [], ◌∷◌, ◌++◌, Option, Some, None, Result, Ok, Err, fold, take}
+use Rattle.std.specs.Prelude.{◌≡◌, ℕ, Bool, true, false, List, [], ◌∷◌, ◌++◌, Option, Some, None, Result, Ok, fold, take}
 use Rattle.indexmap.specs.IndexSet.{insert_key}
 use Rattle.px_column.specs.Prelude.{Kind}
 use Rattle.px_column.specs.Result.{◌>>=◌}

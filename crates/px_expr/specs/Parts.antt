@@ -1,5 +1,5 @@
 -- What contracts see of a node with inputs: these, and what else it holds.
-use Rattle.std.specs.Prelude.{ℕ, Bool, List, [], ◌∷◌, ◌++◌, Option, map, refl}
+use Rattle.std.specs.Prelude.{ℕ, Bool, List, ◌++◌, Option, map, refl}
 use Rattle.std.specs.List.{flat_map}
 use Rattle.std.specs.Coded.{Coded, code_by, coded×, coded_bool, coded_list, coded_option}
 use Rattle.px_column.specs.Kind.{coded_kind}
@@ -15,7 +15,7 @@ use Rattle.px_value.specs.contracts.operator.Operator as operator
 use Rattle.px_value.specs.contracts.sort_options.SortMultipleOptions as sort_multiple_options
 use Rattle.px_value.specs.contracts.sort_options.SortOptions as sort_options
 use Rattle.px_frame.specs.Schema.{FieldKind, coded_field}
-use Rattle.px_tree.specs.Tree.{Tree, Call, called, Trees, trees_of, alias, binary, ternary, cast, function, filter, slice, gather, sort, sort_by, agg, by_name, as_explode}
+use Rattle.px_tree.specs.Tree.{Tree, Call, Trees, trees_of, alias, binary, ternary, cast, function, filter, slice, gather, sort, sort_by, agg, as_explode}
 use Rattle.px_tree.specs.TreeCode.{coded_call}
 use Rattle.px_expr.specs.Planned.{Planned, PlannedColumn, coded_planned}
 

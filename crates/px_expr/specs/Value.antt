@@ -1,19 +1,18 @@
 -- What evaluating a node answers: the value of its expression as a column, or a cause for there being none.
-use Rattle.std.specs.Prelude.{◌≡◌, ◌⊎◌, ℕ, ◌^◌, ◌≤◌, Bool, true, false, List, [], ◌∷◌, ◌++◌, Option, Some, None, Result, Ok, Err, length, is_none, option_map}
+use Rattle.std.specs.Prelude.{◌≡◌, ◌⊎◌, ◌^◌, ◌≤◌, true, List, [], ◌∷◌, ◌++◌, Option, Some, length, is_none}
 use Rattle.std.specs.List.{flat_map}
 use Rattle.px_column.specs.Option.{◌>>=◌}
 use Rattle.px_column.specs.Prelude.{Series}
 use Rattle.px_value.specs.declared.error.PxError.{PxError}
-use Rattle.px_value.specs.declared.error.PxError.TheVariants.{ColumnNotFound, Duplicate, InvalidOperation, ComputeError, OutOfBounds, ShapeMismatch, SchemaMismatch, OutOfMemory}
+use Rattle.px_value.specs.declared.error.PxError.TheVariants.{ColumnNotFound, ComputeError, ShapeMismatch, OutOfMemory}
 use Rattle.px_value.specs.declared.error.ComputeWhy.TheVariants.{TooLong}
 use Rattle.px_frame.specs.External.{Frame, scope_of}
-use Rattle.px_frame.specs.Schema.{FieldKind}
 use Rattle.px_frame.specs.Spread.{NamedCell, column_of_cell}
 use Rattle.px_frame.specs.Cell.{cell_of, is_unit_cell}
 use Rattle.px_tree.specs.Shape.{is_unit, name_of}
 use Rattle.px_tree.specs.Size.{size_on, sizes_on}
 use Rattle.px_tree.specs.Tree.{Tree}
-use Rattle.px_tree.specs.Typing.{Scope, kind_in, refusals_of, refused_where}
+use Rattle.px_tree.specs.Typing.{kind_in, refusals_of, refused_where}
 use Rattle.px_tree.specs.Value.{value_on, named, faults_on, has_misfit}
 use Rattle.px_tree.specs.declared.context.Context.TheVariants.{Default}
 use Rattle.px_expr.specs.Parts.{plan_trees}

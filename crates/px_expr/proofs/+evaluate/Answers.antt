@@ -1,5 +1,5 @@
 use Rattle.px_expr.specs.NodeView.{plan_of}
-use Rattle.std.proofs.Common.{subst, List, arith, rules, ◌≡◌, ◌∙◌, Ok, ap, sym, ◌+◌, true, map}
+use Rattle.std.proofs.Common.{subst, List, rules, ◌≡◌, ◌∙◌, Ok, ap, sym, ◌+◌, true, map}
 use Rattle.px_frame.specs.CellView.{named_cell}
 use Rattle.px_frame.specs.External.{alone}
 use Rattle.px_nodes.specs.Named.{gather_named, function_named, sort_by_named}

@@ -1,4 +1,4 @@
-use Rattle.std.proofs.Common.{rules, ◌≡◌, ◌+◌, ◌+ℤ◌, pos, Some, map}
+use Rattle.std.proofs.Common.{rules, ◌≡◌, ◌+ℤ◌, pos, Some, map}
 use Rattle.std.proofs.Common.{w64, to_z, of_z}
 use Rattle.std.specs.List.{range_with_len}
 use Rattle.px_column.specs.Prelude.{integer, slots_of}

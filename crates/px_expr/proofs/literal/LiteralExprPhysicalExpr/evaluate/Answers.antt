@@ -1,4 +1,4 @@
-use Rattle.std.proofs.Common.{rules, sym}
+use Rattle.std.proofs.Common.{sym}
 use Rattle.px_frame.specs.External.{alone}
 use Rattle.px_tree.specs.View.{literal_of}
 use Rattle.px_expr.proofs.Literals.{literal_cause}
