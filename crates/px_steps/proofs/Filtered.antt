@@ -20,7 +20,7 @@ use Rattle.px_tree.specs.declared.context.Context.TheVariants.{Default}
 use Rattle.px_steps.specs.Causes.{IsStepCause, StepAnswers}
 use Rattle.px_steps.specs.Finds.{Lacks, key_faults, mask_refusals}
 use Rattle.px_steps.specs.Meets.{IsFirst}
-use Rattle.px_steps.specs.Plain.{columns_made, first_of, first_refusal, kept, key_on, misfit_faults, named_value, step_on}
+use Rattle.px_steps.specs.Plain.{columns_made, first_of, first_refusal, key_on, misfit_faults, named_value, step_on}
 use Rattle.px_tree.proofs.KindLaws.{none_left as nil_left, none_right as nil_right}
 use Rattle.px_steps.proofs.Columns.{and_then_some}
 use Rattle.px_steps.proofs.GroupStep.{spread_made, type_refused}
@@ -81,9 +81,9 @@ module _ (t : Tree) (cs : List Series) (none : mask_refusals (map column_field c
 
     made : step_on (filter t) (alone cs) ≡ Some (alone (map (kept_series mask.slots) cs))
     made =
-        let whole : columns_made (filter t) (alone cs) ≡ Some (map (kept mask.slots) cs)
-        = ap (λ o. option_and_then (λ x. option_and_then (λ xs. Some (map (kept xs) cs)) (result_ok (spread (height_of cs) x))) o) (value_there (alone cs) t cell.0 cell.1).0
-        ∙ ap (λ o. option_and_then (λ xs. Some (map (kept xs) cs)) o) (slots_made cell.0 (spread (height_of cs) cell.0.cell) mask cell.2) in
+        let whole : columns_made (filter t) (alone cs) ≡ Some (map (kept_series mask.slots) cs)
+        = ap (λ o. option_and_then (λ x. option_and_then (λ xs. Some (map (kept_series xs) cs)) (result_ok (spread (height_of cs) x))) o) (value_there (alone cs) t cell.0 cell.1).0
+        ∙ ap (λ o. option_and_then (λ xs. Some (map (kept_series xs) cs)) o) (slots_made cell.0 (spread (height_of cs) cell.0.cell) mask cell.2) in
         ap (λ o. option_map (λ columns. record (alone cs) { columns = columns }) o) whole
 
     keeps_rows : kept_frame cs mask ≡ Ok (map (kept_series mask.slots) cs)

@@ -12,12 +12,11 @@ use Rattle.px_value.specs.declared.error.InvalidWhy.TheVariants.{ListKey}
 use Rattle.px_value.specs.declared.error.ComputeWhy.TheVariants.{NoKey, NotPartitionSafe, ChunkLengths}
 use Rattle.px_frame.specs.Cell.{Cell, value_of_cell}
 use Rattle.px_frame.specs.External.{Frame, height, scope_of, rows_of_frame}
-use Rattle.px_frame.specs.Frame.{height_of, first_repeat}
+use Rattle.px_frame.specs.Frame.{height_of, first_repeat, kept_series}
 use Rattle.px_frame.specs.Groups.{first_row}
 use Rattle.px_frame.specs.Parts.{parts_of}
 use Rattle.px_frame.specs.Schema.{column_field}
 use Rattle.px_frame.specs.Spread.{NamedCell, spread, spread_column, spread_all, rows_beside, assembled}
-use Rattle.px_column.specs.Rows.{kept_rows}
 use Rattle.px_tree.specs.Partition.{is_elementwise, is_partition_safe}
 use Rattle.px_tree.specs.Shape.{is_unit, name_of}
 use Rattle.px_tree.specs.Size.{size_on}
@@ -60,17 +59,13 @@ columns_on frame aggs by = do
   columns ← each (aggregated_on frame (parts_of by (height frame))) aggs
   Some (map (key_values (parts_of by (height frame))) by ++ columns)
 
--- a column's rows whose mask is true
-abbrev pub kept : List Slot → Series → Series
-kept mask s = record s { slots = kept_rows mask s.slots }
-
 -- the columns that a step makes of a frame
 abbrev pub columns_made : PlainStep → Frame → Option (List Series)
 columns_made (select es) frame = each (named_value frame) es >>= λ cells. result_ok (assembled cells)
 columns_made (filter e) frame = do
   mask ← value_on e frame
   truths ← result_ok (spread (height frame) mask)
-  Some (map (kept truths) frame.columns)
+  Some (map (kept_series truths) frame.columns)
 columns_made (group keys aggs chunks) frame = each (key_on frame) keys >>= columns_on frame aggs
 
 -- the frame that a step makes of a frame; what stands beside it stays as it is

@@ -13,7 +13,7 @@ use Rattle.px_tree.specs.Typing.{Scope, kind_in}
 use Rattle.px_tree.specs.View.{tree}
 use Rattle.px_steps.specs.Finds.{part_faults}
 use Rattle.px_steps.specs.Plain.{grouped_kind, value_on_part}
-use Rattle.px_tree.proofs.GroupLaws.{less_refused}
+use Rattle.px_typing.proofs.Placing.{refused_more}
 use Rattle.px_steps.proofs.Grouping.{accepted_made, column_finds}
 use Rattle.px_steps.proofs.aggregation.aggregate_by_parts.Goals as goal
 
@@ -21,7 +21,7 @@ pub values_of_groups-requires-clause-accepted : goal.values_of_groups-requires-c
 values_of_groups-requires-clause-accepted g c =
     let t = tree c.args.expr.now in
     let scope = map column_field c.args.frame.now in
-    accepted_made (plan_of c.in_ok-node.node) t c.args.frame.now c.args.schema.now.value c.in_ok-node.ensures.1 c.requires.scope c.requires.built (less_refused t scope c.requires.accepted)
+    accepted_made (plan_of c.in_ok-node.node) t c.args.frame.now c.args.schema.now.value c.in_ok-node.ensures.1 c.requires.scope c.requires.built (refused_more t scope c.requires.accepted)
 
 pub returns-clause-answer : goal.returns-clause-answer
 returns-clause-answer g c =
