@@ -4,12 +4,12 @@ use Rattle.std.specs.List.{find}
 use Rattle.std.specs.Option.{option_or}
 use Rattle.std.specs.Prelude.{is_some}
 use Rattle.px_column.specs.Prelude.{Kind, Series}
-use Rattle.px_column.specs.Option.{◌>>=◌, each}
+use Rattle.px_column.specs.Option.{◌>>=◌}
 use Rattle.px_column.specs.Operator.{operator_kind}
 use Rattle.px_column.specs.Reduction.{reduced_kind}
 use Rattle.px_frame.specs.Cell.{Cell, rows}
 use Rattle.px_frame.specs.External.{look_in, scope_of, rows_of_frame, with_field, external_at}
-use Rattle.px_frame.specs.Frame.{look, has_name, series_at, height_of}
+use Rattle.px_frame.specs.Frame.{look, series_at, height_of}
 use Rattle.px_frame.specs.Schema.{FieldKind, column_field, has_field_name, is_field_name}
 use Rattle.px_frame.specs.Spread.{NamedCell}
 use Rattle.px_tree.specs.Node.{binary_cell, ternary_cell, cast_cell, function_cell, filter_cell, slice_cell, gather_cell, sort_cell, sort_by_cell, reduction_cell}

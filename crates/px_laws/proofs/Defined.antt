@@ -20,7 +20,7 @@ use Rattle.px_tree.specs.declared.context.Context.{Context}
 use Rattle.px_tree.specs.declared.context.Context.TheVariants.{Default, Aggregation}
 use Rattle.px_tree.specs.declared.window.WindowMapping.{WindowMapping}
 use Rattle.px_tree.proofs.KindLaws.{There, none_left, none_right, none_first, kind_there, kinds_there}
-use Rattle.px_laws.proofs.Shapes.{bound, made_bound, map_found}
+use Rattle.px_laws.proofs.Shapes.{bound, made_bound, mapped, map_found}
 use Rattle.px_frame.proofs.LookLaws.{field_look}
 
 -- a name that has a type stands for a column
@@ -102,11 +102,6 @@ each_there f (x ∷ xs) faults h e =
     let first = h x (none_left _ _ e) in
     let rest = each_there f xs faults h (none_right (faults x) _ e) in
     (first.0 ∷ rest.0, λ i. first.1 i >>= λ y. option_map (λ ys. y ∷ ys) (rest.1 i))
-
--- what is there after a map was there before
-mapped : {X Y : Type 0} (o : Option X) (g : X → Y) (y : Y) → option_map g o ≡ Some y → (x : X) × (o ≡ Some x)
-mapped None g y h = cc
-mapped (Some x) g y h = (x, refl)
 
 -- where something is made of each, none has a fault
 each_sound : {A B : Type 0} (f : A → Option B) (xs : List A) (ys : List B) (faults : A → List PxError) → ((x : A) (y : B) → f x ≡ Some y → faults x ≡ []) → each f xs ≡ Some ys → flat_map faults xs ≡ []

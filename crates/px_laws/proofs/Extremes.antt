@@ -10,10 +10,11 @@ use Rattle.std.proofs.lemmas.Cmp.{upto, int_cmp_total, nat_list_cmp_total}
 use Rattle.std.proofs.lemmas.Bool.Decides.{nat_tests}
 use Rattle.std.proofs.lemmas.Grind.{fold-append}
 use Rattle.std.proofs.lemmas.List.Elements.{filter_map-append}
-use Rattle.px_column.specs.Prelude.{Datum, boolean, integer, text, bytes, list, Slot, Kind, booleans, int8s, int16s, int32s, int64s, uint8s, uint16s, uint32s, uint64s, strings, binaries, nulls, lists, fits, slot_fits}
+use Rattle.px_column.specs.Prelude.{Datum, boolean, integer, text, bytes, list, Slot, Kind, booleans, strings, binaries, nulls, lists}
 use Rattle.px_column.specs.Order.{datum_cmp}
 use Rattle.px_column.specs.Reduction.{values_of}
 use Rattle.px_value.proofs.FitLaws.{both as both_true}
+use Rattle.px_laws.proofs.Like.{is_like, are_slots_like}
 
 -- which kind of value a value is, and a type's values are
 abbrev pub sort_of : Datum → ℕ
@@ -41,78 +42,31 @@ abbrev pub is_slot_of : ℕ → Slot → Bool
 is_slot_of n None = true
 is_slot_of n (Some d) = is_of n d
 
--- a value that fits a type is of its sort
-pub fits_sort : (k : Kind) (d : Datum) → fits k d ≡ true → is_of (kind_sort k) d ≡ true
-fits_sort booleans (boolean x) h = refl
-fits_sort booleans (integer x) h = cc
-fits_sort booleans (text x) h = cc
-fits_sort booleans (bytes x) h = cc
-fits_sort booleans (list x) h = cc
-fits_sort int8s (boolean x) h = cc
-fits_sort int8s (integer x) h = refl
-fits_sort int8s (text x) h = cc
-fits_sort int8s (bytes x) h = cc
-fits_sort int8s (list x) h = cc
-fits_sort int16s (boolean x) h = cc
-fits_sort int16s (integer x) h = refl
-fits_sort int16s (text x) h = cc
-fits_sort int16s (bytes x) h = cc
-fits_sort int16s (list x) h = cc
-fits_sort int32s (boolean x) h = cc
-fits_sort int32s (integer x) h = refl
-fits_sort int32s (text x) h = cc
-fits_sort int32s (bytes x) h = cc
-fits_sort int32s (list x) h = cc
-fits_sort int64s (boolean x) h = cc
-fits_sort int64s (integer x) h = refl
-fits_sort int64s (text x) h = cc
-fits_sort int64s (bytes x) h = cc
-fits_sort int64s (list x) h = cc
-fits_sort uint8s (boolean x) h = cc
-fits_sort uint8s (integer x) h = refl
-fits_sort uint8s (text x) h = cc
-fits_sort uint8s (bytes x) h = cc
-fits_sort uint8s (list x) h = cc
-fits_sort uint16s (boolean x) h = cc
-fits_sort uint16s (integer x) h = refl
-fits_sort uint16s (text x) h = cc
-fits_sort uint16s (bytes x) h = cc
-fits_sort uint16s (list x) h = cc
-fits_sort uint32s (boolean x) h = cc
-fits_sort uint32s (integer x) h = refl
-fits_sort uint32s (text x) h = cc
-fits_sort uint32s (bytes x) h = cc
-fits_sort uint32s (list x) h = cc
-fits_sort uint64s (boolean x) h = cc
-fits_sort uint64s (integer x) h = refl
-fits_sort uint64s (text x) h = cc
-fits_sort uint64s (bytes x) h = cc
-fits_sort uint64s (list x) h = cc
-fits_sort strings (boolean x) h = cc
-fits_sort strings (integer x) h = cc
-fits_sort strings (text x) h = refl
-fits_sort strings (bytes x) h = cc
-fits_sort strings (list x) h = cc
-fits_sort binaries (boolean x) h = cc
-fits_sort binaries (integer x) h = cc
-fits_sort binaries (text x) h = cc
-fits_sort binaries (bytes x) h = refl
-fits_sort binaries (list x) h = cc
-fits_sort nulls (boolean x) h = cc
-fits_sort nulls (integer x) h = cc
-fits_sort nulls (text x) h = cc
-fits_sort nulls (bytes x) h = cc
-fits_sort nulls (list x) h = cc
-fits_sort (lists j) (boolean x) h = cc
-fits_sort (lists j) (integer x) h = cc
-fits_sort (lists j) (text x) h = cc
-fits_sort (lists j) (bytes x) h = cc
-fits_sort (lists j) (list x) h = refl
+-- each place is
+abbrev pub are_slots_of : ℕ → List Slot → Bool
+are_slots_of n xs = list_all (is_slot_of n) xs
 
--- so a place
-pub slot_fits_sort : (k : Kind) (s : Slot) → slot_fits k s ≡ true → is_slot_of (kind_sort k) s ≡ true
-slot_fits_sort k None h = refl
-slot_fits_sort k (Some d) h = fits_sort k d h
+-- a value like those of a type is of its sort
+like_is_sorted : (k : Kind) (d : Datum) → is_like k d ≡ true → is_of (kind_sort k) d ≡ true
+like_is_sorted booleans (boolean b) h = refl
+like_is_sorted k (boolean b) h = cc
+like_is_sorted booleans (integer z) h = cc
+like_is_sorted strings (integer z) h = cc
+like_is_sorted binaries (integer z) h = cc
+like_is_sorted nulls (integer z) h = cc
+like_is_sorted (lists j) (integer z) h = cc
+like_is_sorted k (integer z) h = refl
+like_is_sorted strings (text s) h = refl
+like_is_sorted k (text s) h = cc
+like_is_sorted binaries (bytes s) h = refl
+like_is_sorted k (bytes s) h = cc
+like_is_sorted (lists j) (list ds) h = refl
+like_is_sorted k (list ds) h = cc
+
+pub like_are_sorted : (k : Kind) (xs : List Slot) → are_slots_like k xs ≡ true → are_slots_of (kind_sort k) xs ≡ true
+like_are_sorted k [] h = refl
+like_are_sorted k (None ∷ xs) h = like_are_sorted k xs h
+like_are_sorted k (Some d ∷ xs) h = let p = both_true (is_like k d) (are_slots_like k xs) h in λ i. like_is_sorted k d p.0 i && like_are_sorted k xs p.1 i
 
 -- what an order says of three values, in turn
 less_is : (o : Ordering) → is_lt o ≡ true → o ≡ Less

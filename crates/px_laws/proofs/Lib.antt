@@ -11,6 +11,9 @@ pub mod Sums
 pub mod RowCount
 pub mod Merging
 pub mod Extremes
-pub mod Sorted
+pub mod Passing
+pub mod Like
+pub mod LikeCells
 pub mod Typed
+pub mod ValueFaults
 pub mod RangeCount

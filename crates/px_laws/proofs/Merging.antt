@@ -1,5 +1,5 @@
 -- The values of a partition safe expression on parts merge to that on all their rows.
-use Rattle.std.proofs.Common.{◌≡◌, ℕ, ◌+◌, ◌-◌, ◌^◌, ◌<◌, ◌≤◌, suc, Bool, true, false, ◌&&◌, List, [], ◌∷◌, ◌++◌, Option, Some, None, Ok, option_map, length, map, refl, sym, ◌∙◌, ap, arith}
+use Rattle.std.proofs.Common.{◌≡◌, ℕ, ◌+◌, ◌-◌, ◌^◌, ◌<◌, ◌≤◌, suc, Bool, true, false, ◌&&◌, List, [], ◌∷◌, ◌++◌, Option, Some, Ok, option_map, length, map, refl, sym, ◌∙◌, ap, arith}
 use Rattle.std.specs.List.{flat_map, list_all, list_any}
 use Rattle.std.proofs.lemmas.List.{append-nil, length-append, length-map}
 use Rattle.px_column.specs.Prelude.{list, Slot, slots, items, Kind, booleans, int8s, int16s, int32s, int64s, uint8s, uint16s, uint32s, uint64s, strings, binaries, nulls, lists, Series, slot_at}
@@ -31,20 +31,14 @@ use Rattle.px_laws.proofs.Joining.{under_name, value_joins}
 use Rattle.px_value.proofs.FitLaws.{both as both_true}
 use Rattle.px_tree.proofs.KindLaws.{none_left, none_right, none_first, none_own}
 use Rattle.px_laws.proofs.RowCount.{value_long}
-use Rattle.px_laws.proofs.Shapes.{bound, made_bound, made_ok, shape_of_value}
+use Rattle.px_laws.proofs.Shapes.{bound, made_bound, mapped, made_ok, shape_of_value}
 use Rattle.px_laws.proofs.Sums.{sum_merges, count_merges}
-use Rattle.px_laws.proofs.Extremes.{kind_sort, is_slot_of, least_merges, greatest_merges}
-use Rattle.px_laws.proofs.Sorted.{are_slots_of}
-use Rattle.px_laws.proofs.Typed.{value_sorted}
+use Rattle.px_laws.proofs.Extremes.{kind_sort, is_slot_of, are_slots_of, like_are_sorted, least_merges, greatest_merges}
+use Rattle.px_laws.proofs.Typed.{frame_fits, value_like}
 use Rattle.px_laws.specs.Fitting.{has_fitting_columns, has_fitting_literals}
 use Rattle.std.proofs.lemmas.List.Folds.{list_all-append}
 use Rattle.px_laws.specs.Merge.{has_rows, are_parts, rows_of_parts, value_at, OnParts, is_extreme, PartsMerge}
 use Rattle.px_value.proofs.EachLaws.{each_same, each_some}
-
--- what is mapped comes from what is there
-mapped : {A B : Type 0} (o : Option A) (f : A → B) (b : B) → option_map f o ≡ Some b → (a : A) × (o ≡ Some a) × (f a ≡ b)
-mapped None f b h = cc
-mapped (Some a) f b h = (a, refl, cc)
 
 -- one cell comes from one tree
 one_unit : (es : Trees) (frame : Frame) (a : Cell) → is_unit_first es ≡ true → cells_on es frame ≡ Some (a ∷ []) → are_units es ≡ true
@@ -463,7 +457,11 @@ extreme_agg m e frame k parts x fit lits on values h =
     let j = bound (kind_in e (scope_of frame)) _ k on.kind in
     let lists = reduced_on m e frame parts j.0 values safe.1 on.accepted j.1 h in
     let whole = lists_of_parts e frame parts lists.0 safe.1 on.even on.some lists.1 in
-    let sorted = value_sorted e frame (rows_of_parts parts) j.0 (rows (all_slots lists.0)) safe.1 on.even fit lits (none_first _ _ on.accepted) j.1 whole in
+    let all = rows_of_frame frame (rows_of_parts parts) in
+    let scope = scope_of_rows frame (rows_of_parts parts) in
+    let accepted : refusals_of e (scope_of all) Aggregation ≡ [] = ap (λ t. refusals_of e t Aggregation) scope ∙ none_first _ _ on.accepted in
+    let like = value_like e all Aggregation j.0 (rows (all_slots lists.0)) (frame_fits frame (rows_of_parts parts) fit) lits accepted (ap (kind_in e) scope ∙ j.1) whole in
+    let sorted = like_are_sorted j.0 (all_slots lists.0) like in
     at_reduced m e frame (rows_of_parts parts) j.0 (all_slots lists.0) j.1 whole
     ∙ ap Some (extreme_merges m j.0 k lists.0 x j.2 sorted ∙ ap (merged_by m k) lists.2)
 

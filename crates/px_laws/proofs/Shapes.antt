@@ -42,6 +42,11 @@ pub made_bound : {A : Type 0} (o : Option A) (f : A → Option (Result Cell PxEr
 made_bound None f c h = cc
 made_bound (Some a) f c h = (a, refl, h)
 
+-- what is there after a map is made of what was there before
+pub mapped : {A B : Type 0} (o : Option A) (f : A → B) (b : B) → option_map f o ≡ Some b → (a : A) × (o ≡ Some a) × (f a ≡ b)
+mapped None f b h = cc
+mapped (Some a) f b h = (a, refl, cc)
+
 pub made_ok : (r : Result Cell PxError) (c : Cell) → made (Some r) ≡ Some c → r ≡ Ok c
 made_ok (Ok d) c h = cc
 made_ok (Err e) c h = cc

@@ -13,6 +13,7 @@ pub use parts::{
     parts_hold_each_row_once, parts_stand_by_their_first_rows, spread_keeps_equal_lengths,
 };
 pub use value::{
-    accepted_without_fault_has_value, alias_changes_the_name_alone, range_has_its_length,
-    value_has_its_shape, value_has_no_fault, value_needs_no_external_column,
+    accepted_expressions_fail_by_value, accepted_without_fault_has_value,
+    alias_changes_the_name_alone, range_has_its_length, value_has_its_shape, value_has_no_fault,
+    value_needs_no_external_column,
 };

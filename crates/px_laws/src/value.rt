@@ -7,6 +7,7 @@ ghost use Rattle.px_frame.specs.External.{Frame, scope_of};
 ghost use Rattle.px_tree.specs.Node.{natural};
 ghost use Rattle.px_frame.specs.Cell.{is_unit_cell};
 ghost use Rattle.px_laws.specs.Beside.{are_columns_of, beside};
+ghost use Rattle.px_laws.specs.Faults.{FailsByValue};
 ghost use Rattle.px_tree.specs.Nodes.{leaf_names};
 ghost use Rattle.px_tree.specs.Shape.{is_unit, name_of};
 ghost use Rattle.px_tree.specs.Size.{size_on};
@@ -57,6 +58,17 @@ pub fn accepted_without_fault_has_value(expr: &Expr)
 #[tactic(auto, using(crate::proofs::Defined::value_sound))]
 pub fn value_has_no_fault(expr: &Expr)
     ensures { (frame : Frame) (c : Cell) → value_on (tree expr.now) frame ≡ Some c → faults_on (tree expr.now) frame ≡ [] }
+{
+    let _ = expr;
+}
+
+/// Where the columns of a frame and an expression's literals fit their types, an expression that is not
+/// refused fails by its values alone, windows included: each of its faults is a cast that loses a value, an
+/// argument that a slice cannot use, a null index, a bound of a range that does not lie in its type, a
+/// window's list of another length than its part, a row that is not there, or lists of different lengths.
+#[tactic(auto, using(crate::proofs::ValueFaults::value_faults))]
+pub fn accepted_expressions_fail_by_value(expr: &Expr)
+    ensures { FailsByValue (tree expr.now) }
 {
     let _ = expr;
 }
