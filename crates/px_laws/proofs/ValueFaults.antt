@@ -43,7 +43,7 @@ use Rattle.px_laws.specs.Faults.{is_value_fault}
 use Rattle.px_laws.specs.Fitting.{has_fitting_columns, has_fitting_literals, have_fitting_literals, has_fitting_order}
 
 -- an answer that is refused by such a fault alone, if at all
-abbrev fails_by_value : {A : Type 0} → Result A PxError → Bool
+abbrev pub fails_by_value : {A : Type 0} → Result A PxError → Bool
 fails_by_value (Ok a) = true
 fails_by_value (Err e) = is_value_fault e
 
@@ -53,7 +53,7 @@ then_fails (Ok a) f h g = g a
 then_fails (Err e) f h g = h
 
 -- a cell at some rows
-spread_fails : (n : ℕ) (c : Cell) → fails_by_value (spread n c) ≡ true
+pub spread_fails : (n : ℕ) (c : Cell) → fails_by_value (spread n c) ≡ true
 spread_fails n (unit s) = refl
 spread_fails n (rows xs) = by (length xs == n)
   where
@@ -239,7 +239,7 @@ column_fails n c = by (spread n c.cell) (spread_fails n c.cell)
     by (Ok xs) h = refl
     by (Err e) h = h
 
-columns_fail : (n : ℕ) (cs : List NamedCell) → fails_by_value (spread_all n cs) ≡ true
+pub columns_fail : (n : ℕ) (cs : List NamedCell) → fails_by_value (spread_all n cs) ≡ true
 columns_fail n [] = refl
 columns_fail n (c ∷ cs) = by (spread_column n c) (spread_all n cs) (column_fails n c) (columns_fail n cs)
   where
