@@ -1,1 +1,4 @@
 pub mod Flags
+pub mod Key
+pub mod Places
+pub mod Placed

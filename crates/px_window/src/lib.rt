@@ -1,8 +1,17 @@
-//! What an evaluation keeps beside the frame.
+//! What an evaluation keeps beside the frame, the groups of windows, and where their values stand.
 #![tactic(auto)]
 
 mod flags;
+mod key;
+mod ordering;
+mod places;
+mod placing;
+mod rows;
 mod state;
 
 pub use flags::StateFlags;
+pub use key::CacheKey;
+pub use ordering::ordered_groups;
+pub use places::inverse_map;
+pub use placing::{place_explode, place_join, place_rows};
 pub use state::ExecutionState;

@@ -1,0 +1,7 @@
+pub mod Once
+pub mod Taking
+pub mod Sorted
+pub mod Joining
+pub mod Laying
+pub mod Exploding
+pub mod Whole
