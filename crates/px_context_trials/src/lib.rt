@@ -6,4 +6,6 @@ mod generated;
 #[cfg(test)]
 mod told;
 #[cfg(test)]
+mod windows;
+#[cfg(test)]
 mod worked;
