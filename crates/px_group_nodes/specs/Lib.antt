@@ -1,0 +1,4 @@
+pub mod Lane
+pub mod Made
+pub mod Alike
+pub mod Operator

@@ -1,0 +1,10 @@
+//! What nodes make of contexts: for each group what they make of its cells.
+#![tactic(auto)]
+
+mod binary;
+mod each;
+mod lane;
+mod laying;
+mod shape;
+
+pub use binary::binary_groups;
