@@ -1,6 +1,6 @@
 -- The contexts of cells of one name, type and shape.
 use Rattle.std.proofs.Common.{◌≡◌, ◌⊎◌, inl, inr, ℕ, Bool, suc, ◌+◌, ◌^◌, ◌<◌, ◌≤◌, true, false, List, [], ◌∷◌, ◌++◌, Result, Ok, Err, cond, fold, length, map, nat_lt, refl, replicate, sum, sym, ap, ◌∙◌, arith, append_assoc, length-append}
-use Rattle.std.specs.List.{flat_map, range_with_len}
+use Rattle.std.specs.List.{range_with_len}
 use Rattle.std.proofs.lemmas.Bool.Decides.{nat_tests}
 use Rattle.std.proofs.lemmas.List.{length-map}
 use Rattle.std.proofs.lemmas.List.Concat.{length-flat_map}
@@ -16,7 +16,7 @@ use Rattle.px_frame.specs.Spread.{NamedCell}
 use Rattle.px_context.proofs.Aggregating.{shift, unless_made}
 use Rattle.px_context.specs.Built.{with_column}
 use Rattle.px_context.specs.Context.{Context}
-use Rattle.px_group_nodes.specs.Alike.{AreLike, AreOf, IsLike, flat_over, lengths_in, values_in}
+use Rattle.px_group_nodes.specs.Alike.{AreLike, AreOf, flat_over, lengths_in, values_in}
 use Rattle.px_group_nodes.specs.Made.{named_cells}
 use Rattle.px_group_nodes.proofs.Stepping.{refuses_is}
 

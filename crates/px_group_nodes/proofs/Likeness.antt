@@ -1,5 +1,5 @@
 -- The answers of a node have one name, one type and one shape.
-use Rattle.std.proofs.Common.{◌≡◌, ℕ, Bool, true, false, List, [], ◌∷◌, Result, Ok, Err, map, refl}
+use Rattle.std.proofs.Common.{◌≡◌, ℕ, Bool, true, false, List, [], ◌∷◌, Result, Ok, map, refl}
 use Rattle.px_column.specs.Prelude.{Kind, Series, Slot, slot_at}
 use Rattle.px_value.specs.declared.error.PxError.{PxError}
 use Rattle.px_frame.specs.Cell.{Cell, unit, rows, is_unit_cell}

@@ -1,5 +1,5 @@
 -- An operator goes row by row.
-use Rattle.std.proofs.Common.{◌≡◌, ◌⊎◌, inl, inr, ℕ, ◌&&◌, Bool, true, List, [], Result, Ok, Err, map, refl, sym, ap, ◌∙◌, subst}
+use Rattle.std.proofs.Common.{◌≡◌, ◌⊎◌, inl, inr, ℕ, ◌&&◌, true, List, [], Result, Ok, Err, map, refl, sym, ap, ◌∙◌}
 use Rattle.px_column.specs.Operator.{operated, operator_kind}
 use Rattle.px_column.specs.Prelude.{Kind, Refuses}
 use Rattle.px_column.specs.Result.{◌>>=◌}
@@ -14,7 +14,7 @@ use Rattle.px_tree.specs.Node.{binary_cell}
 use Rattle.px_nodes.specs.Named.{binary_named, under}
 use Rattle.px_nodes.specs.Together.{stands_at}
 use Rattle.px_context.specs.Context.{Context, IsContext, cell_kind, cells_of, has_units}
-use Rattle.px_group_nodes.specs.Alike.{AreLike, IsLike}
+use Rattle.px_group_nodes.specs.Alike.{AreLike}
 use Rattle.px_group_nodes.specs.Lane.{has_lane, lane_of, untouched_of}
 use Rattle.px_group_nodes.specs.Made.{ArePaired, IsRefusal}
 use Rattle.px_group_nodes.specs.Operator.{operator_answers}

@@ -1,4 +1,4 @@
-use Rattle.std.proofs.Common.{◌≡◌, ◌&&◌, ◌∙◌, sym, true}
+use Rattle.std.proofs.Common.{◌∙◌, sym}
 use Rattle.px_value.proofs.FitLaws.{both}
 use Rattle.px_group_nodes.specs.Lane.{has_lane}
 use Rattle.px_group_nodes.proofs.binary.binary_groups.Goals as goal

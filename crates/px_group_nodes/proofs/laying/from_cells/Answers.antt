@@ -1,10 +1,8 @@
-use Rattle.std.proofs.Common.{◌≡◌, ◌⊎◌, ◌<◌, ◌≤◌, ◌^◌, inl, ℕ, Bool, true, false, ap, arith, length, map, refl, subst, sum, sym, ◌∙◌}
+use Rattle.std.proofs.Common.{◌≡◌, ◌⊎◌, ◌≤◌, ◌^◌, inl, Bool, true, false, length, map, refl, subst, sum, sym}
 use Rattle.px_column.specs.Prelude.{kind_of}
 use Rattle.px_value.specs.declared.error.ComputeWhy.TheVariants.{TooLong}
-use Rattle.px_value.specs.declared.error.PxError.{PxError}
 use Rattle.px_value.specs.declared.error.PxError.TheVariants.{ComputeError, OutOfMemory}
 use Rattle.px_frame.specs.CellView.{named_cell}
-use Rattle.px_frame.specs.Groups.{Groups}
 use Rattle.px_context.specs.Built.{with_column}
 use Rattle.px_context.specs.Context.{Context, cell_kind, has_units}
 use Rattle.px_group_nodes.specs.Alike.{AreLike, lengths_in, values_in}

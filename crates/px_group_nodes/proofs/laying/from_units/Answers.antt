@@ -1,7 +1,6 @@
-use Rattle.std.proofs.Common.{◌≡◌, ◌∙◌, ◌<◌, ◌^◌, ℕ, [], true, Ok, ap, arith, length, map, subst, sym}
-use Rattle.px_column.specs.Prelude.{Kind, Series, kind_of}
+use Rattle.std.proofs.Common.{◌≡◌, ◌∙◌, [], true, ap, arith, length, map, subst}
+use Rattle.px_column.specs.Prelude.{Series, kind_of}
 use Rattle.px_frame.specs.CellView.{named_cell}
-use Rattle.px_frame.specs.declared.cell.Cell.{Cell}
 use Rattle.std.proofs.lemmas.List.{length-map}
 use Rattle.px_group_nodes.specs.Alike.{AreOf, values_in}
 use Rattle.px_group_nodes.proofs.Joining.{length_units, of_like}
