@@ -1,6 +1,6 @@
 //! Contexts of cells that nodes made group by group.
-ghost use Rattle.std.specs.Prelude.{◌≡◌, ◌⊎◌, ◌+◌, ◌<◌, ◌≤◌, ◌^◌, ◌++◌, [], Ok, Bool, IfOk, IfErr, OnOk, ℕ, List, false, true, length, map, sum};
-ghost use Rattle.px_column.specs.Prelude.{Answers, AnswersBy, Kind, kind_of};
+ghost use Rattle.std.specs.Prelude.{◌≡◌, ◌⊎◌, ◌+◌, ◌<◌, ◌≤◌, ◌^◌, ◌++◌, [], Ok, IfOk, IfErr, OnOk, false, true, length, map, sum};
+ghost use Rattle.px_column.specs.Prelude.{Answers, AnswersBy, kind_of};
 ghost use Rattle.px_value.specs.declared.error.ComputeWhy.TheVariants.{TooLong};
 ghost use Rattle.px_value.specs.declared.error.PxError.TheVariants.{ComputeError, OutOfMemory};
 ghost use Rattle.px_frame.specs.CellView.{named_cell};
