@@ -313,6 +313,15 @@ module _ (a : PlannedApply) (f : Frame) (cs : List NamedCell) (are : AreCellsOf 
       is_unit : is_unit_cell c.cell ≡ is_unit_call (called a.call) (is_unit_first (plan_trees a.inputs)) (are_units (plan_trees a.inputs))
       is_unit = rw (← inputs.first, ← inputs.units) (function_unit (called a.call) (first_kind (kinds_of cs)) (cells_in cs) c.cell made.cell_is)
 
+  -- what is refused is among the causes, or there are too many values
+  pub apply_lacks : (e : PxError) → function_named (called a.call) cs ≡ Err e → IsOneOf e (causes_on (apply_plan a) f) ⊎ (2 ^ 32 ≤ size_on (apply_plan a).tree (f ∷ []))
+  apply_lacks e h = by (refused_by (function_kind (called a.call) (kinds_of cs)) (first_name cs) (function_cell (called a.call) (first_kind (kinds_of cs)) (cells_in cs)) e h)
+    where
+      by : IsRefusedBy (function_kind (called a.call) (kinds_of cs)) (function_cell (called a.call) (first_kind (kinds_of cs)) (cells_in cs)) e → IsOneOf e (causes_on (apply_plan a) f) ⊎ (2 ^ 32 ≤ size_on (apply_plan a).tree (f ∷ []))
+      by (inl k) = inl (kind_cause e k)
+      by (inr (inl k)) = inl (fault_cause e k)
+      by (inr (inr k)) = inr (size_cause k.1.0 k.1.1.0 k.1.1.1)
+
   apply_cause : (e : PxError) → function_named (called a.call) cs ≡ Err e → IsCause e (apply_plan a) f
   apply_cause e h = by (refused_by (function_kind (called a.call) (kinds_of cs)) (first_name cs) (function_cell (called a.call) (first_kind (kinds_of cs)) (cells_in cs)) e h)
     where

@@ -1,17 +1,18 @@
 -- Nodes evaluated one after another, as far as a loop has come.
 use Rattle.std.proofs.Common.{◌≡◌, ℕ, ◌+◌, ◌<◌, ◌≤◌, Bool, true, false, ◌&&◌, ◌||◌, cond, List, [], ◌∷◌, ◌++◌, Some, None, IfSome, length, map, drop, get_or, refl, sym, ◌∙◌, ap, subst, arith, append_assoc}
 use Rattle.std.proofs.lemmas.List.{at_drop_more, at_drop_all, append-nil, map-append}
+use Rattle.std.proofs.lemmas.List.Sums.{sum_by-cons}
 use Rattle.px_value.specs.declared.error.PxError.{PxError}
 use Rattle.px_frame.specs.CellView.{named_cell}
 use Rattle.px_frame.specs.External.{Frame}
 use Rattle.px_frame.specs.Spread.{NamedCell}
 use Rattle.px_frame.specs.declared.cell.Cell.{Cell}
-use Rattle.px_tree.specs.Cost.{all_ticks_of, are_flat_rows, cost_on, is_flat_rows, ticks_of}
+use Rattle.px_tree.specs.Cost.{all_ticks_of, are_flat_rows, cost_on, is_flat, is_flat_rows, ticks_of}
 use Rattle.px_tree.specs.Nodes.{all_nodes_of, nodes_of}
 use Rattle.px_tree.specs.Partition.{is_row_function}
 use Rattle.px_tree.specs.Tree.{Call, Tree, Trees, called, function, sort_by}
 use Rattle.px_value.specs.declared.sort_options.SortMultipleOptions.{SortMultipleOptions}
-use Rattle.px_expr.specs.Counted.{RunAllAtMost, RunAllExactly, RunAtMost, RunExactly}
+use Rattle.px_expr.specs.Counted.{RunAllAtLeast, RunAllAtMost, RunAllExactly, RunAtMost, RunExactly, flat_kernels}
 use Rattle.px_expr.specs.NodeView.{plan_of}
 use Rattle.px_expr.specs.Parts.{plan_trees}
 use Rattle.px_expr.specs.Planned.{Planned}
@@ -53,6 +54,19 @@ most_before p ps f old mid new r s = record {
       omega (arith, first, rest);
 }
 
+-- one more expression's, at least
+pub least_here : (t : Tree) (f : Frame) (old new : ℕ) → RunExactly t old new → RunAtMost t f old new → old + flat_kernels t ≤ new
+least_here t f old new exact most = by (is_flat t) refl
+  where
+    by : (b : Bool) → is_flat t ≡ b → old + (cond b (ticks_of t) 0) ≤ new
+    by true h = let same = exact h in omega (arith, same)
+    by false h = omega (arith, most.rises)
+
+least_before : (p : Planned) (ps : List Planned) (f : Frame) (old mid new : ℕ) → RunExactly p.tree old mid → RunAtMost p.tree f old mid → RunAllAtLeast ps mid new → RunAllAtLeast (p ∷ ps) old new
+least_before p ps f old mid new exact most h =
+    let here = least_here p.tree f old mid exact most in
+    omega (arith, here, h, sum_by-cons (λ (q : Planned). flat_kernels q.tree) p ps)
+
 -- no kernel ran
 pub none_ran : (ts : Trees) (n : ℕ) → RunAllAtMost ts n n
 none_ran ts n = record { rises = omega arith; cost = λ h. omega arith }
@@ -62,10 +76,11 @@ pub record EvaluatesFront (ps rest : List Planned) (f : Frame) (cells : List Nam
   pub values : (cs : List NamedCell) → AreCellsOf rest f cs → AreCellsOf ps f (cells ++ cs)
   pub exact : (new : ℕ) → RunAllExactly (plan_trees rest) now new → RunAllExactly (plan_trees ps) old new
   pub most : (new : ℕ) → RunAllAtMost (plan_trees rest) now new → RunAllAtMost (plan_trees ps) old new
+  pub least : (new : ℕ) → RunAllAtLeast rest now new → RunAllAtLeast ps old new
   pub causes : (e : PxError) → IsCauseOfAny e rest f → IsCauseOfAny e ps f
 
 pub front_none : (ps : List Planned) (f : Frame) (old : ℕ) → EvaluatesFront ps ps f [] old old
-front_none ps f old = record { values = λ cs h. h; exact = λ new h. h; most = λ new h. h; causes = λ e h. h }
+front_none ps f old = record { values = λ cs h. h; exact = λ new h. h; most = λ new h. h; least = λ new h. h; causes = λ e h. h }
 
 front_next : (ps : List Planned) (p : Planned) (rest : List Planned) (f : Frame) (cells : List NamedCell) (c : NamedCell) (old now new : ℕ) → EvaluatesFront ps (p ∷ rest) f cells old now
     → IsCellOf p f c → RunExactly p.tree now new → RunAtMost p.tree f now new → EvaluatesFront ps rest f (cells ++ c ∷ []) old new
@@ -73,6 +88,7 @@ front_next ps p rest f cells c old now new v is exact most = record {
   values = λ cs h. subst (AreCellsOf ps f) (sym (append_assoc cells (c ∷ []) cs)) (v.values (c ∷ cs) (is, h));
   exact = λ last h. v.exact last (exactly_before p rest now new last exact h);
   most = λ last h. v.most last (most_before p rest f now new last most h);
+  least = λ last h. v.least last (least_before p rest f now new last exact most h);
   causes = λ e h. v.causes e (cause_of_others e p rest f h);
 }
 
@@ -99,9 +115,9 @@ module _ (nodes : List PhysExpr) (i : ℕ) (n : PhysExpr) (below : i < length no
 
 -- all of them
 pub cells_done : (nodes : List PhysExpr) (i : ℕ) (f : Frame) (cells : List Cell) (old now : ℕ) → length nodes ≤ i → EvaluatesTo nodes i f cells old now
-    → AreCellsOf (map plan_of nodes) f (map named_cell cells) × (RunAllExactly (plan_trees (map plan_of nodes)) old now × RunAllAtMost (plan_trees (map plan_of nodes)) old now)
+    → AreCellsOf (map plan_of nodes) f (map named_cell cells) × (RunAllExactly (plan_trees (map plan_of nodes)) old now × (RunAllAtMost (plan_trees (map plan_of nodes)) old now × RunAllAtLeast (map plan_of nodes) old now))
 cells_done nodes i f cells old now h v =
-    (subst (AreCellsOf (map plan_of nodes) f) (append-nil (map named_cell cells)) (closed.values [] tt), (closed.exact now (λ k. omega arith), closed.most now (none_ran _ now)))
+    (subst (AreCellsOf (map plan_of nodes) f) (append-nil (map named_cell cells)) (closed.values [] tt), (closed.exact now (λ k. omega arith), (closed.most now (none_ran _ now), closed.least now (omega arith))))
   where
     closed : EvaluatesFront (map plan_of nodes) [] f (map named_cell cells) old now
     closed = subst (λ (ms : List PhysExpr). EvaluatesFront (map plan_of nodes) (map plan_of ms) f (map named_cell cells) old now) (at_drop_all (λ (ms : List PhysExpr). ms) nodes i h) v

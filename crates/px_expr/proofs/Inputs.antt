@@ -249,6 +249,16 @@ made_cell q ps f name (Ok k) (Ok m) c d h =
       shape = d.shape;
     })
 
+-- the refusal or the fault is among the causes
+pub made_among : (q : Planned) (ps : List Planned) (f : Frame) (name : List ℕ) (typed : Result Kind PxError) (cell : Result Cell PxError) (e : PxError) → Decides q ps f name typed cell → (typed >>= λ k. under name k cell) ≡ Err e → IsOneOf e (causes_on q f)
+made_among q ps f name (Err w) cell e d h =
+    let same : w ≡ e = cc in
+    subst (λ (x : PxError). IsOneOf x (causes_on q f)) same (own_refusal w q ps f d.node d.sound d.own)
+made_among q ps f name (Ok k) (Err w) e d h =
+    let same : w ≡ e = cc in
+    subst (λ (x : PxError). IsOneOf x (causes_on q f)) same (own_fault w q ps f d.node (ap fault_in d.outcome))
+made_among q ps f name (Ok k) (Ok m) e d h = absurd (cc h)
+
 -- the refusal or the fault is a cause of the node
 pub made_cause : (q : Planned) (ps : List Planned) (f : Frame) (name : List ℕ) (typed : Result Kind PxError) (cell : Result Cell PxError) (e : PxError) → Decides q ps f name typed cell → (typed >>= λ k. under name k cell) ≡ Err e → IsCause e q f
 made_cause q ps f name (Err w) cell e d h =

@@ -1,7 +1,6 @@
 -- Fronts of names that were added.
-use Rattle.std.proofs.Common.{◌≡◌, ℕ, zero, suc, List, [], ◌∷◌, ◌++◌, None, take, length, refl, sym, ◌∙◌, ap}
+use Rattle.std.proofs.Common.{◌≡◌, ℕ, zero, suc, List, [], ◌∷◌, ◌++◌, take, length, refl, sym, ◌∙◌, ap}
 use Rattle.px_tree.specs.Tree.{Tree, alias}
-use Rattle.px_expr.specs.Inline.{inline_on}
 use Rattle.px_expr.specs.Live.{added, AddsFront, live_names}
 use Rattle.px_expr.specs.Planned.{Planned}
 
@@ -28,7 +27,3 @@ alias_front p q n set now h f = rw h (front_more set (live_names q) (n ∷ []) n
 
 pub alias_whole : (p : Planned) (q : Tree) (n : List ℕ) (set now : List (List ℕ)) → p.tree ≡ alias q n → now ≡ added set (live_names q) → AddsFront set (live_names p.tree) now
 alias_whole p q n set now h f = rw h (front_whole set (live_names q) (n ∷ []) now f)
-
--- without a level an alias is not evaluated
-pub no_level : (p : Planned) (q : Tree) (n : List ℕ) (levels : ℕ) → p.tree ≡ alias q n → levels ≡ 0 → inline_on levels p.tree ≡ None
-no_level p q n levels h z = rw (h, z) refl

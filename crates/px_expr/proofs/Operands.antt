@@ -19,10 +19,10 @@ use Rattle.px_tree.specs.Typing.{kind_in, made_kind, refusals_of, own_refusals, 
 use Rattle.px_tree.specs.Value.{outcome_on, fault_in, faults_on}
 use Rattle.px_tree.specs.declared.context.Context.TheVariants.{Default}
 use Rattle.px_expr.proofs.Cells.{cell_is_value, unit_cell_of}
-use Rattle.px_expr.proofs.Inputs.{IsNode, Decides, cause_above, made_cell, made_cause, refused_cause, one_apart, two_apart, three_apart, one_none, two_none, three_none}
+use Rattle.px_expr.proofs.Inputs.{IsNode, Decides, cause_above, made_among, made_cell, made_cause, refused_cause, one_apart, two_apart, three_apart, one_none, two_none, three_none}
 use Rattle.px_expr.proofs.Plain.{Plain, plain_if, plain_then, plain_where, plain_operator, plain_spread, plain_cast_slot, plain_cast_slots}
 use Rattle.px_expr.specs.Parts.{PlannedBinary, PlannedTernary, PlannedCast, binary_plan, ternary_plan, cast_plan}
-use Rattle.px_expr.specs.Value.{IsCause, IsCellOf, IsValue, causes_on}
+use Rattle.px_expr.specs.Value.{IsCause, IsCellOf, IsOneOf, IsValue, causes_on}
 
 -- the first refusal of a type is the whole of it
 pub first_refusal : (r : Result Kind PxError) → or_first [] (refusal_of r) ≡ refusal_of r
@@ -225,6 +225,10 @@ cast_value c f x d h m =
 pub cast_cause : (e : PxError) (c : PlannedCast) (f : Frame) (x : NamedCell) → IsCellOf c.input f x → Refuses e (cast_named c.dtype c.options x) → IsCause e (cast_plan c) f
 cast_cause e c f x h =
     refused_cause e (cast_named c.dtype c.options x) (cast_plan c) f (made_cause (cast_plan c) (c.input ∷ []) f x.name (cast_kind x.kind c.dtype) (cast_cell x.kind c.dtype c.options x.cell) e (cast_decides c f x h))
+
+-- what is refused is among the causes
+pub cast_lacks : (e : PxError) (c : PlannedCast) (f : Frame) (x : NamedCell) → IsCellOf c.input f x → cast_named c.dtype c.options x ≡ Err e → IsOneOf e (causes_on (cast_plan c) f)
+cast_lacks e c f x h = made_among (cast_plan c) (c.input ∷ []) f x.name (cast_kind x.kind c.dtype) (cast_cell x.kind c.dtype c.options x.cell) e (cast_decides c f x h)
 
 pub cast_input_cause : (e : PxError) (c : PlannedCast) (f : Frame) → IsCause e c.input f → IsCause e (cast_plan c) f
 cast_input_cause e c f = cause_above e (cast_plan c) (c.input ∷ []) c.input f (cast_node c f) (inl refl)

@@ -114,6 +114,7 @@ impl PhysicalExpr for AliasExpr {
     }
 
     #[cycle(inline)]
+    #[tactic(auto, using(crate::proofs::Inlined::alias_inline, crate::proofs::Inlined::not_inline))]
     fn evaluate_inline_impl(&self, alloc: Global, depth_limit: u8) -> Px<Option<Column>> {
         let input = &self.physical_expr;
         if depth_limit == 0 {

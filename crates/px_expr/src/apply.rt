@@ -8,6 +8,7 @@ ghost use Rattle.px_expr.specs.Live.{is_partitioned_function};
 ghost use Rattle.px_expr.specs.NodeView.{plan_of};
 ghost use Rattle.px_expr.specs.Parts.{apply_plan, call_in, call_on, plan_trees};
 
+use crate::inline::{inline_cells, inline_function};
 use crate::phys_expr::{PhysExpr, collect_all, evaluate_cells, have_literals_alone};
 use crate::physical::{PhysicalExpr, expression_field};
 use indexmap::IndexSet;
@@ -163,9 +164,16 @@ impl PhysicalExpr for ApplyExpr {
         self.evaluate_inline_impl(alloc, 4)
     }
 
+    #[cycle(inline)]
+    #[tactic(auto, using(crate::proofs::Inlined::apply_inline, crate::proofs::Inlined::apply_nothing, crate::proofs::Inlined::not_inline))]
     fn evaluate_inline_impl(&self, alloc: Global, depth_limit: u8) -> Px<Option<Column>> {
-        let _ = &self.expr;
-        Ok(None)
+        if depth_limit == 0 {
+            return Ok(None);
+        }
+        match inline_cells(alloc, &self.inputs, depth_limit - 1)? {
+            Some(cells) => inline_function(alloc, cells, &self.function),
+            None => Ok(None),
+        }
     }
 
     fn to_field(&self, alloc: Global, input_schema: &Schema) -> Px<Field> {

@@ -6,6 +6,7 @@ ghost use Rattle.px_tree.specs.View.{tree};
 ghost use Rattle.px_expr.specs.NodeView.{plan_of};
 ghost use Rattle.px_expr.specs.Parts.{cast_plan};
 
+use crate::inline::{inline_cast, inline_cell};
 use crate::phys_expr::{PhysExpr, evaluate_cell};
 use crate::physical::{PhysicalExpr, expression_field};
 use indexmap::IndexSet;
@@ -123,9 +124,17 @@ impl PhysicalExpr for CastExpr {
         self.evaluate_inline_impl(alloc, 4)
     }
 
+    #[cycle(inline)]
+    #[tactic(auto, using(crate::proofs::Inlined::cast_inline, crate::proofs::Inlined::cast_nothing, crate::proofs::Inlined::not_inline))]
     fn evaluate_inline_impl(&self, alloc: Global, depth_limit: u8) -> Px<Option<Column>> {
-        let _ = &self.expr;
-        Ok(None)
+        let input = &self.input;
+        if depth_limit == 0 {
+            return Ok(None);
+        }
+        match inline_cell(alloc, input, depth_limit - 1)? {
+            Some(cell) => inline_cast(alloc, cell, &self.dtype, self.options),
+            None => Ok(None),
+        }
     }
 
     fn to_field(&self, alloc: Global, input_schema: &Schema) -> Px<Field> {

@@ -4,7 +4,7 @@ ghost use Rattle.px_column.specs.Prelude.{Answers};
 ghost use Rattle.px_frame.specs.CellView.{named_cell};
 ghost use Rattle.px_frame.specs.External.{alone};
 ghost use Rattle.px_tree.specs.Shape.{is_literal_tree, are_literal_trees};
-ghost use Rattle.px_expr.specs.Counted.{RunAtMost, RunExactly, RunAllAtMost, RunAllExactly};
+ghost use Rattle.px_expr.specs.Counted.{RunAllAtLeast, RunAllAtMost, RunAllExactly, RunAtMost, RunExactly};
 ghost use Rattle.px_expr.specs.Live.{all_live_names, added, AddsFront};
 ghost use Rattle.px_expr.specs.NodeView.{plan_of};
 ghost use Rattle.px_expr.specs.Parts.{plan_trees};
@@ -242,10 +242,11 @@ impl PhysicalExpr for PhysExpr {
     }
 }
 
-/// A node's value on a frame as a cell: a unit where the node has one value, and else its rows.
+/// A node's value on a frame as a cell: a unit where the node has one value, and else its rows. It is
+/// refused, and counts, as `evaluate` is and does.
 #[tactic(auto, using(crate::proofs::Cells::value_is_cell))]
 #[cycle(evaluate)]
-pub(crate) fn evaluate_cell<L: Ledger, M: Ledger>(
+pub fn evaluate_cell<L: Ledger, M: Ledger>(
     alloc: Global,
     node: &PhysExpr,
     df: &DataFrame,
@@ -264,10 +265,11 @@ pub(crate) fn evaluate_cell<L: Ledger, M: Ledger>(
     Ok(Cell::new(column, node.is_scalar()))
 }
 
-/// The values of some nodes on a frame as cells, in their order.
+/// The values of some nodes on a frame as cells, in their order, or why one of them has none.
+/// `kernels` rises at least by the kernels of the flat ones.
 #[cycle(evaluate)]
 #[tactic(auto, using(crate::proofs::CellsInOrder::front_none, crate::proofs::CellsInOrder::none_ran))]
-pub(crate) fn evaluate_cells<L: Ledger, M: Ledger>(
+pub fn evaluate_cells<L: Ledger, M: Ledger>(
     alloc: Global,
     nodes: &[PhysExpr],
     df: &DataFrame,
@@ -280,6 +282,7 @@ pub(crate) fn evaluate_cells<L: Ledger, M: Ledger>(
     ensures frame { state.new ≡ state.old }
     ensures grouped { groupings.new ≡ groupings.old }
     ensures ticks { OnOk result (RunAllExactly (plan_trees (map plan_of nodes.now)) kernels.old kernels.new) }
+    ensures least { OnOk result (RunAllAtLeast (map plan_of nodes.now) kernels.old kernels.new) }
     ensures cost { RunAllAtMost (plan_trees (map plan_of nodes.now)) kernels.old kernels.new }
 {
     let mut cells = Vec::with_capacity(alloc, nodes.len())?;

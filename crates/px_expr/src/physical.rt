@@ -6,7 +6,7 @@ ghost use Rattle.px_frame.specs.SchemaView.{field_kind};
 ghost use Rattle.px_tree.specs.Shape.{is_unit};
 ghost use Rattle.px_tree.specs.View.{tree};
 ghost use Rattle.px_expr.specs.Counted.{RunAtMost, RunExactly};
-ghost use Rattle.px_expr.specs.Inline.{inline_on};
+ghost use Rattle.px_expr.specs.Inline.{IsInline};
 ghost use Rattle.px_expr.specs.Live.{expression_of, field_on, is_literal_node, is_partitioned, live_names, added, AddsFront};
 ghost use Rattle.px_expr.specs.Planned.{Planned};
 ghost use Rattle.px_expr.specs.Value.{IsValue, IsCause};
@@ -46,14 +46,15 @@ pub trait PhysicalExpr {
         ensures ticks { OnOk result (RunExactly (planned self.now).tree kernels.old kernels.new) }
         ensures cost { RunAtMost (planned self.now).tree (alone df.now) kernels.old kernels.new };
 
-    /// The value without a frame, where it is there: that of a literal which is no range, under at most
-    /// four aliases.
+    /// The value without a frame, where there is one: that of a literal which is no range, under at most
+    /// four aliases, casts and functions. What is cast, or a function's input, has one row. None where it
+    /// is refused or a fault.
     fn evaluate_inline(&self, alloc: Global) -> Px<Option<Column>>
-        ensures inline { Answers result (Ok (inline_on 4 (planned self.now).tree)) };
+        ensures inline { IfOk result (IsInline 4 (planned self.now).tree) };
 
-    /// The same under at most `depth_limit` aliases.
+    /// The same under at most `depth_limit` aliases, casts and functions.
     fn evaluate_inline_impl(&self, alloc: Global, depth_limit: u8) -> Px<Option<Column>>
-        ensures inline { Answers result (Ok (inline_on depth_limit (planned self.now).tree)) };
+        ensures inline { IfOk result (IsInline depth_limit (planned self.now).tree) };
 
     /// The name and the type over a schema, or the first refusal.
     fn to_field(&self, alloc: Global, input_schema: &Schema) -> Px<Field>

@@ -3,13 +3,15 @@ ghost use Rattle.std.specs.Prelude.{◌≡◌, ◌<◌};
 
 use crate::told::{four_rows, frame, told};
 use indexmap::IndexSet;
-use px_column::{Column, DataType, GroupByMethod, Name, Px, PxError, Steps};
+use px_column::{CastOptions, Column, DataType, GroupByMethod, Name, Px, PxError, Steps};
 use px_expr::{
     AggregationExpr, AggregationType, ColumnExpr, ExpressionConversionState, LiteralExpr, PhysExpr,
     PhysicalExpr, create_physical_expr, is_built,
 };
 use px_frame::{DataFrame, Field, Schema, SchemaRef};
-use px_plan::{Arena, Context, Expr, ExprIR, LiteralValue, fits_arena, to_arena};
+use px_plan::{
+    Arena, Context, Expr, ExprIR, Exprs, FunctionExpr, LiteralValue, fits_arena, to_arena,
+};
 use px_window::ExecutionState;
 use std::alloc::Global;
 use std::marker::Brand;
@@ -62,6 +64,29 @@ fn inline_under(alloc: Global, aliases: u32) -> Px<Name> {
     inline(alloc, &node)
 }
 
+// A strict cast of a text to a number.
+fn number(alloc: Global, text: &str) -> Px<Expr> {
+    let literal = Expr::Literal(LiteralValue::String(Name::new(alloc, text)?));
+    Ok(Expr::Cast {
+        expr: Rc::new(alloc, literal)?,
+        dtype: DataType::Int64,
+        options: CastOptions::Strict,
+    })
+}
+
+fn inline_number(alloc: Global, text: &str) -> Px<Name> {
+    let node = planned(alloc, &number(alloc, text)?)?;
+    inline(alloc, &node)
+}
+
+fn inline_is_null(alloc: Global, text: &str) -> Px<Name> {
+    let items = Rc::new(alloc, vec![in alloc; number(alloc, text)?]?)?;
+    let input = Exprs { items };
+    let function = FunctionExpr::IsNull;
+    let node = planned(alloc, &Expr::Function { input, function })?;
+    inline(alloc, &node)
+}
+
 const RANGE: LiteralValue = LiteralValue::Range {
     low: 0,
     high: 3,
@@ -79,6 +104,21 @@ fn a_literal_has_its_value_without_a_frame(rt: HostRuntime) -> Result<(), Fail> 
         "[\"t\"]\n[\"Int64\"]\n[5]\n"
     );
     assert_eq!(rt; inline_under(alloc, 5)?.as_str(), "none");
+    Ok(())
+}
+
+#[test]
+fn a_cast_and_a_function_have_their_value_without_a_frame(rt: HostRuntime) -> Result<(), Fail> {
+    let alloc = rt.alloc();
+    assert_eq!(rt;
+        inline_number(alloc, "7")?.as_str(),
+        "[\"literal\"]\n[\"Int64\"]\n[7]\n"
+    );
+    assert_eq!(rt; inline_number(alloc, "x")?.as_str(), "none");
+    assert_eq!(rt;
+        inline_is_null(alloc, "7")?.as_str(),
+        "[\"literal\"]\n[\"Boolean\"]\n[false]\n"
+    );
     Ok(())
 }
 

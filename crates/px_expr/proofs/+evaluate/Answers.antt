@@ -198,7 +198,11 @@ phys_expr::evaluate_cells-returns-clause-ticks t g c =
 
 pub phys_expr::evaluate_cells-returns-clause-cost : goal.phys_expr::evaluate_cells-returns-clause-cost
 phys_expr::evaluate_cells-returns-clause-cost t g c =
-    (cells_done c.args.nodes.now c.loop-node.node-index (alone c.args.df.now) c.loop-node.cells.items c.args.kernels.now c.loop-node.kernels c.loop-node-test.false c.loop-node.invariant.front).1.1
+    (cells_done c.args.nodes.now c.loop-node.node-index (alone c.args.df.now) c.loop-node.cells.items c.args.kernels.now c.loop-node.kernels c.loop-node-test.false c.loop-node.invariant.front).1.1.0
+
+pub phys_expr::evaluate_cells-returns-clause-least : goal.phys_expr::evaluate_cells-returns-clause-least
+phys_expr::evaluate_cells-returns-clause-least t g c =
+    (cells_done c.args.nodes.now c.loop-node.node-index (alone c.args.df.now) c.loop-node.cells.items c.args.kernels.now c.loop-node.kernels c.loop-node-test.false c.loop-node.invariant.front).1.1.1
 
 -- functions, and rows in the order of others
 pub apply::ApplyExprPhysicalExpr::evaluate-returns-clause-value : goal.apply::ApplyExprPhysicalExpr::evaluate-returns-clause-value
