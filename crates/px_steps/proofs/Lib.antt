@@ -4,7 +4,6 @@ pub mod Members
 pub mod Grouping
 pub mod GroupStep
 pub mod Filtered
-pub mod CellLoop
 pub mod Grouped
 pub mod Columns
 pub mod Replied

@@ -1,6 +1,6 @@
 -- What holds of a list holds of an item of it, and what holds of an item may hold of the list.
-use Rattle.std.proofs.Common.{◌≡◌, ◌⊎◌, inl, inr, ℕ, zero, suc, ◌+◌, ◌<◌, ◌≤◌, ◌^◌, Bool, true, ◌&&◌, List, [], ◌∷◌, ◌++◌, Option, Some, None, Result, Ok, Err, IfOk, option_map, option_and_then, length, drop, map, get_or, append_assoc, sum, refl, sym, ◌∙◌, ap, arith, subst}
-use Rattle.std.specs.List.{flat_map, list_all}
+use Rattle.std.proofs.Common.{◌≡◌, ◌⊎◌, inl, inr, ℕ, zero, suc, ◌+◌, ◌<◌, ◌≤◌, ◌^◌, Bool, true, ◌&&◌, List, [], ◌∷◌, ◌++◌, Option, Some, None, Result, Ok, Err, IfOk, OnOk, option_map, option_and_then, length, drop, map, get_or, append_assoc, sum, refl, sym, ◌∙◌, ap, arith, subst}
+use Rattle.std.specs.List.{flat_map, list_all, sum_by}
 use Rattle.std.proofs.lemmas.List.{at_drop_more}
 use Rattle.std.proofs.lemmas.List.Sums.{sum_by-cons}
 use Rattle.px_value.specs.declared.error.PxError.{PxError}
@@ -69,6 +69,11 @@ pub if_ok : {X E : Type 0} {P Q : X → Type 0} (r : Result X E) → IfOk r P �
 if_ok (Ok x) h f = f x h
 if_ok (Err e) h f = h
 
+-- what holds holds on Ok
+pub on_ok : {X E P : Type 0} (r : Result X E) → P → OnOk r P
+on_ok (Ok x) h = h
+on_ok (Err e) h = tt
+
 -- one more made value moves to the front
 pub front_moved : {A B : Type 0} (f : A → Option B) (x : A) (xs : List A) (front : List B) (y : B) → f x ≡ Some y → with_front (front ++ y ∷ []) (each f xs) ≡ with_front front (each f (x ∷ xs))
 front_moved {A} {B} f x xs front y e =
@@ -91,6 +96,9 @@ module _ {X A : Type 0} (v : X → A) (xs : List X) (i : ℕ) (x : X) (below : i
 
   pub first_here : (f : A → List PxError) (e : PxError) → flat_map f (map v (drop i xs)) ≡ flat_map f (map v xs) → IsFirst e (f (v x)) → IsFirst e (flat_map f (map v xs))
   first_here f e h n = subst (λ (es : List PxError). IsFirst e es) (sym (at (flat_map f)) ∙ h) (IsFirst_append e (f (v x)) (flat_map f (map v (drop (i + 1) xs))) n)
+
+  pub least_next : (f : A → ℕ) (all old new : ℕ) → all ≤ old + sum_by f (map v (drop i xs)) → old + f (v x) ≤ new → all ≤ new + sum_by f (map v (drop (i + 1) xs))
+  least_next f all old new h one = omega (arith, h, one, at (sum_by f), sum_by-cons f (v x) (map v (drop (i + 1) xs)))
 
   pub values_next : {B : Type 0} (f : A → Option B) (front new : List B) (b : B) (all : Option (List B)) → with_front front (each f (map v (drop i xs))) ≡ all → f (v x) ≡ Some b → new ≡ front ++ b ∷ []
       → with_front new (each f (map v (drop (i + 1) xs))) ≡ all

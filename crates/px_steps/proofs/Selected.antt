@@ -1,7 +1,8 @@
 -- What is known of planned expressions that are not refused: their types, their columns, and why they have no value.
-use Rattle.std.proofs.Common.{◌≡◌, ◌⊎◌, ◌<◌, ◌^◌, inl, inr, ℕ, Bool, true, false, not, ◌&&◌, ◌||◌, List, [], ◌∷◌, ◌++◌, Option, Some, None, Result, Ok, Err, option_map, option_and_then, map, arith, max, refl, sym, ◌∙◌, ap, subst}
+use Rattle.std.proofs.Common.{◌≡◌, ◌⊎◌, ◌<◌, ◌^◌, inl, inr, ℕ, ◌+◌, Bool, true, false, not, ◌&&◌, ◌||◌, List, [], ◌∷◌, ◌++◌, Option, Some, None, Result, Ok, Err, option_map, option_and_then, map, arith, max, refl, sym, ◌∙◌, ap, subst}
 use Rattle.std.specs.Prelude.{IfOk, is_none, is_some}
-use Rattle.std.specs.List.{filter_map, find, flat_map, list_all, list_any}
+use Rattle.std.specs.List.{filter_map, find, flat_map, list_all, list_any, sum_by}
+use Rattle.std.proofs.lemmas.List.Sums.{sum_by-cons}
 use Rattle.std.specs.Option.{option_map_or}
 use Rattle.std.specs.Result.{result_ok}
 use Rattle.px_column.specs.Prelude.{Answers, AnswersBy, Refuses, Kind, Series}
@@ -14,7 +15,9 @@ use Rattle.px_value.specs.declared.error.ComputeWhy.TheVariants.{TooLong}
 use Rattle.px_tree.specs.Built.{is_built_tree}
 use Rattle.px_expr.specs.Plan.{plan_in, planned_over}
 use Rattle.px_expr.specs.Planned.{Planned, is_reserved}
-use Rattle.px_expr.specs.Value.{IsValue, IsCause, IsOneOf, causes_on, unfound_refusal}
+use Rattle.px_expr.specs.Counted.{flat_kernels}
+use Rattle.px_expr.specs.Parts.{plan_trees}
+use Rattle.px_expr.specs.Value.{AreCellsOf, IsCause, IsCauseOfAny, IsCellOf, IsOneOf, IsValue, causes_on, unfound_refusal}
 use Rattle.px_frame.specs.External.{Frame, alone, scope_of}
 use Rattle.px_frame.specs.Cell.{Cell}
 use Rattle.px_frame.specs.Frame.{first_repeat, height_of, look, unless_repeated}
@@ -23,7 +26,7 @@ use Rattle.px_frame.specs.Schema.{FieldKind, column_field, has_field_name}
 use Rattle.px_frame.specs.Cell.{cell_of}
 use Rattle.px_tree.specs.Nodes.{leaf_names, all_leaf_names}
 use Rattle.px_tree.specs.Shape.{has_window, have_window, is_unit, name_of}
-use Rattle.px_tree.specs.Size.{size_on}
+use Rattle.px_tree.specs.Size.{size_on, sizes_on}
 use Rattle.px_tree.specs.Tree.{Tree, Trees, no_trees, one_tree, column, literal, alias, binary, ternary, cast, function, filter, slice, gather, sort, sort_by, agg, len, window}
 use Rattle.px_tree.specs.Typing.{Scope, kind_in, kind_of_name, refusals_of, all_refusals_of, refused_where, refusal_of, refusal_of_one, made_kind, literal_kind, on_groups, grouped_reduction_refusals, or_first, first_or_kind}
 use Rattle.px_tree.specs.Value.{faults_on, is_misfit, has_misfit, value_on, named}
@@ -32,7 +35,7 @@ use Rattle.px_tree.specs.declared.context.Context.TheVariants.{Default}
 use Rattle.px_frame.proofs.LookLaws.{field_look as field-look}
 use Rattle.px_steps.specs.Meets.{MeetsBy, IsFirst}
 use Rattle.px_steps.specs.Finds.{Lacks}
-use Rattle.px_steps.specs.Causes.{IsCauseOfAny, IsStepCause, StepAnswers}
+use Rattle.px_steps.specs.Causes.{IsStepCause, StepAnswers}
 use Rattle.px_steps.specs.Plain.{first_of, first_refusal, frame_refusals, greatest, named_value, misfit_faults, refused_by, repeat_refusal, step_on, step_refusals, uneven_fault}
 use Rattle.px_tree.specs.Step.{PlainStep, select}
 use Rattle.px_expr.specs.NodeView.{plan_of}
@@ -176,16 +179,29 @@ no_misfits cs ts = ap (λ b. refused_where b ShapeMismatch) (none ts)
     none [] = refl
     none (t ∷ ts) = λ i. no_misfit cs (leaf_names t) i || none ts i
 
--- a value as a column, under its name and type
-pub value_named : (p : Planned) (frame : Frame) (s : Series) → IsValue p frame s → named_value frame p.tree ≡ Some (record { name = s.name; kind = s.kind; cell = cell_of (is_unit p.tree) s.slots })
-value_named p frame s v =
-    ap (λ o. option_and_then (named p.tree frame) o) v.value
-    ∙ ap (λ o. option_map (λ k. record { name = name_of p.tree; kind = k; cell = cell_of (is_unit p.tree) s.slots }) o) v.kind
-    ∙ (λ i. Some (record { name = sym v.name i; kind = s.kind; cell = cell_of (is_unit p.tree) s.slots }))
+-- the cell of an expression's value is that value, under its name and type
+pub cell_named : (p : Planned) (frame : Frame) (c : NamedCell) → IsCellOf p frame c → named_value frame p.tree ≡ Some c
+cell_named p frame c h =
+    ap (λ o. option_and_then (named p.tree frame) o) h.value
+    ∙ ap (λ o. option_map (λ k. record { name = name_of p.tree; kind = k; cell = c.cell }) o) h.kind
+    ∙ (λ i. Some (record { name = sym h.name i; kind = c.kind; cell = c.cell }))
 
--- a value has no faults
-pub value_sound : (p : Planned) (frame : Frame) (s : Series) → IsValue p frame s → faults_on p.tree frame ≡ []
-value_sound p frame s v = nil_right (refusals_of p.tree (scope_of frame) Default ++ flat_map (unfound_refusal frame) p.columns ++ refused_where (has_misfit p.tree frame) ShapeMismatch) _ v.sound
+-- and has no faults
+pub cell_sound : (p : Planned) (frame : Frame) (c : NamedCell) → IsCellOf p frame c → faults_on p.tree frame ≡ []
+cell_sound p frame c h = nil_right (refusals_of p.tree (scope_of frame) Default ++ flat_map (unfound_refusal frame) p.columns ++ refused_where (has_misfit p.tree frame) ShapeMismatch) _ h.sound
+
+-- the same of some expressions
+pub cells_named : (scope : Scope) (frame : Frame) (ts : List Tree) (cs : List NamedCell) → AreCellsOf (map (planned_over scope) ts) frame cs → each (named_value frame) ts ≡ Some cs
+cells_named scope frame [] [] h = refl
+cells_named scope frame [] (c ∷ cs) h = absurd h
+cells_named scope frame (t ∷ ts) [] h = absurd h
+cells_named scope frame (t ∷ ts) (c ∷ cs) h =
+    λ i. option_and_then (λ y. option_map (λ ys. y ∷ ys) (cells_named scope frame ts cs h.1 i)) (cell_named (planned_over scope t) frame c h.0 i)
+
+pub cells_sound : (scope : Scope) (frame : Frame) (ts : List Tree) (cs : List NamedCell) → AreCellsOf (map (planned_over scope) ts) frame cs → flat_map (λ t. faults_on t frame) ts ≡ []
+cells_sound scope frame [] cs h = refl
+cells_sound scope frame (t ∷ ts) [] h = absurd h
+cells_sound scope frame (t ∷ ts) (c ∷ cs) h = λ i. cell_sound (planned_over scope t) frame c h.0 i ++ cells_sound scope frame ts cs h.1 i
 
 pub one_left : (e : PxError) (xs ys : List PxError) → IsOneOf e xs → IsOneOf e (xs ++ ys)
 one_left e [] ys h = absurd h
@@ -211,34 +227,39 @@ cause_lacks SchemaMismatch p frame h = inr (inl h)
 pub faults_alone : (cs : List Series) (t : Tree) → is_built_tree t ≡ true → refusals_of t (map column_field cs) Default ≡ [] → causes_on (planned_over (map column_field cs) t) (alone cs) ≡ faults_on t (alone cs)
 faults_alone cs t b h = λ i. ((h i ++ leaves_found cs t b h i) ++ refused_where (no_misfit cs (leaf_names t) i) ShapeMismatch) ++ faults_on t (alone cs)
 
-lacks_first : (e : PxError) (xs ys : List PxError) (m n : ℕ) → Lacks e xs m → Lacks e (xs ++ ys) (max m n)
-lacks_first e xs ys m n (inl h) = inl h
-lacks_first e xs ys m n (inr (inl h)) = inr (inl (one_left e xs ys h))
-lacks_first e xs ys m n (inr (inr h)) = inr (inr (h.0, omega (arith, h.1)))
+-- why some expressions have no values is what they lack
+causes_lack : (e : PxError) (ps : List Planned) (frame : Frame) → IsCauseOfAny e ps frame → Lacks e (flat_map (λ p. causes_on p frame) ps) (sizes_on (plan_trees ps) (frame ∷ []))
+causes_lack OutOfMemory ps frame h = inl refl
+causes_lack (ComputeError TooLong) ps frame h = inr (inr (refl, h))
+causes_lack _ ps frame h = inr (inl h)
 
-lacks_later : (e : PxError) (xs ys : List PxError) (m n : ℕ) → Lacks e ys n → Lacks e (xs ++ ys) (max m n)
-lacks_later e xs ys m n (inl h) = inl h
-lacks_later e xs ys m n (inr (inl h)) = inr (inl (one_right e xs ys h))
-lacks_later e xs ys m n (inr (inr h)) = inr (inr (h.0, omega (arith, h.1)))
+all_faults_alone : (cs : List Series) (ts : List Tree) → list_all is_built_tree ts ≡ true → flat_map (frame_refusals (alone cs)) ts ≡ []
+    → flat_map (λ p. causes_on p (alone cs)) (map (planned_over (map column_field cs)) ts) ≡ flat_map (λ t. faults_on t (alone cs)) ts
+all_faults_alone cs [] b h = refl
+all_faults_alone cs (t ∷ ts) b h =
+    let one = both (is_built_tree t) (list_all is_built_tree ts) b in
+    let here = faults_alone cs t one.0 (nil_left (frame_refusals (alone cs) t) (flat_map (frame_refusals (alone cs)) ts) h) in
+    let rest = all_faults_alone cs ts one.1 (nil_right (frame_refusals (alone cs) t) (flat_map (frame_refusals (alone cs)) ts) h) in
+    λ i. here i ++ rest i
 
--- what one of some expressions lacks that are not refused
-pub any_lacks : (cs : List Series) (e : PxError) (ts : List Tree) → list_all is_built_tree ts ≡ true → flat_map (frame_refusals (alone cs)) ts ≡ [] → IsCauseOfAny e (map (planned_over (map column_field cs)) ts) (alone cs)
+all_sizes : (scope : Scope) (ts : List Tree) (frames : List Frame) → sizes_on (plan_trees (map (planned_over scope) ts)) frames ≡ greatest (map (λ t. size_on t frames) ts)
+all_sizes scope [] frames = refl
+all_sizes scope (t ∷ ts) frames = ap (max (size_on t frames)) (all_sizes scope ts frames)
+
+-- what some expressions lack that are not refused
+any_lacks : (cs : List Series) (e : PxError) (ts : List Tree) → list_all is_built_tree ts ≡ true → flat_map (frame_refusals (alone cs)) ts ≡ [] → IsCauseOfAny e (map (planned_over (map column_field cs)) ts) (alone cs)
     → Lacks e (flat_map (λ t. faults_on t (alone cs)) ts) (greatest (map (λ t. size_on t (alone cs ∷ [])) ts))
-any_lacks cs e [] b h c = inl c
-any_lacks cs e (t ∷ ts) b h (inl c) =
-    let one = both (is_built_tree t) (list_all is_built_tree ts) b in
-    let sound : refusals_of t (map column_field cs) Default ≡ [] = nil_left (frame_refusals (alone cs) t) (flat_map (frame_refusals (alone cs)) ts) h in
-    lacks_first e (faults_on t (alone cs)) _ (size_on t (alone cs ∷ [])) _
-    (subst (λ (es : List PxError). Lacks e es (size_on t (alone cs ∷ []))) (faults_alone cs t one.0 sound) (cause_lacks e (planned_over (map column_field cs) t) (alone cs) c))
-any_lacks cs e (t ∷ ts) b h (inr c) =
-    let one = both (is_built_tree t) (list_all is_built_tree ts) b in
-    let sound = nil_right (frame_refusals (alone cs) t) (flat_map (frame_refusals (alone cs)) ts) h in
-    lacks_later e (faults_on t (alone cs)) _ (size_on t (alone cs ∷ [])) _ (any_lacks cs e ts one.1 sound c)
+any_lacks cs e ts b h c =
+    let over = map column_field cs in
+    subst (λ n. Lacks e (flat_map (λ t. faults_on t (alone cs)) ts) n) (all_sizes over ts (alone cs ∷ []))
+    (subst (λ (es : List PxError). Lacks e es (sizes_on (plan_trees (map (planned_over over) ts)) (alone cs ∷ []))) (all_faults_alone cs ts b h) (causes_lack e (map (planned_over over) ts) (alone cs) c))
 
--- want of memory is a cause of any
-pub memory_lacks : (ps : List Planned) (frame : Frame) → IsCauseOfAny OutOfMemory ps frame
-memory_lacks [] frame = refl
-memory_lacks (p ∷ ps) frame = inr (memory_lacks ps frame)
+-- the kernels that some nodes run at least are their expressions'
+pub least_ticks : (scope : Scope) (ts : List Tree) → sum_by (λ (p : Planned). flat_kernels p.tree) (map (planned_over scope) ts) ≡ sum_by flat_kernels ts
+least_ticks scope [] = refl
+least_ticks scope (t ∷ ts) =
+    sum_by-cons (λ (p : Planned). flat_kernels p.tree) (planned_over scope t) (map (planned_over scope) ts)
+    ∙ ap (λ n. flat_kernels t + n) (least_ticks scope ts) ∙ sym (sum_by-cons flat_kernels t ts)
 
 -- a refusal that is told is the first one, or memory was wanting
 pub first_cause : (e : PxError) (refusals : List PxError) → IsFirst e refusals → (e ≡ OutOfMemory) ⊎ (first_of refusals ≡ Some e)
@@ -267,25 +288,6 @@ naming_cause e ts cs none h = refusal_cause e (select ts) (alone cs) (subst (λ 
 
 accepted : (ts : List Tree) (cs : List Series) → flat_map (frame_refusals (alone cs)) ts ≡ [] → repeat_refusal ts ≡ [] → first_refusal (select ts) (alone cs) ≡ None
 accepted ts cs none once = λ i. first_of (none i ++ once i)
-
--- the nodes' trees are the expressions
-pub each_node : {A : Type 0} (f : Tree → Option A) (scope : Scope) (nodes : List PhysExpr) (ts : List Tree) → map plan_of nodes ≡ map (planned_over scope) ts → each (λ n. f (plan_of n).tree) nodes ≡ each f ts
-each_node f scope [] [] h = refl
-each_node f scope [] (t ∷ ts) h = cc
-each_node f scope (n ∷ nodes) [] h = cc
-each_node f scope (n ∷ nodes) (t ∷ ts) h =
-    let one : plan_of n ≡ planned_over scope t = cc in
-    let others : map plan_of nodes ≡ map (planned_over scope) ts = cc in
-    λ i. option_and_then (λ y. option_map (λ ys. y ∷ ys) (each_node f scope nodes ts others i)) (f (one i).tree)
-
-pub flat_node : (f : Tree → List PxError) (scope : Scope) (nodes : List PhysExpr) (ts : List Tree) → map plan_of nodes ≡ map (planned_over scope) ts → flat_map (λ n. f (plan_of n).tree) nodes ≡ flat_map f ts
-flat_node f scope [] [] h = refl
-flat_node f scope [] (t ∷ ts) h = cc
-flat_node f scope (n ∷ nodes) [] h = cc
-flat_node f scope (n ∷ nodes) (t ∷ ts) h =
-    let one : plan_of n ≡ planned_over scope t = cc in
-    let others : map plan_of nodes ≡ map (planned_over scope) ts = cc in
-    λ i. f (one i).tree ++ flat_node f scope nodes ts others i
 
 -- the same over a schema that is the frame's
 pub typed_over : (scope : Scope) (cs : List Series) (ts : List Tree) → scope ≡ map column_field cs → flat_map (λ t. refusals_of t scope Default) ts ≡ flat_map (frame_refusals (alone cs)) ts

@@ -11,7 +11,7 @@ use Rattle.px_expr.specs.Value.{IsOneOf}
 use Rattle.px_frame.specs.External.{Frame, alone}
 use Rattle.px_tree.specs.Built.{is_built}
 use Rattle.px_steps.specs.Causes.{AreRun, IsCauseIn, StandsIn, StepAnswers, StepsAnswer}
-use Rattle.px_steps.specs.Plain.{AreValid, groupings_in, groupings_of, plain_on, step_on}
+use Rattle.px_steps.specs.Plain.{AreValid, groupings_in, groupings_of, kernels_in, kernels_of, plain_on, step_on}
 use Rattle.px_tree.specs.Step.{PlainStep, step_view}
 use Rattle.px_tree.specs.declared.step.Step.{Step}
 use Rattle.px_value.proofs.FitLaws.{both}
@@ -39,6 +39,9 @@ module _ (steps : List Step) (i : ℕ) (k : Step) (below : i < length steps) (is
 
   pub grouped_next : (before after all : ℕ) → before + groupings_of (map step_view (drop i steps)) ≡ all → after ≡ before + groupings_in (step_view k) → after + groupings_of (map step_view (drop (i + 1) steps)) ≡ all
   grouped_next before after all h e = omega (arith, at groupings_of, sum_by-cons groupings_in (step_view k) (map step_view (drop (i + 1) steps)))
+
+  pub ticks_next : (before after all : ℕ) → all ≤ before + kernels_of (map step_view (drop i steps)) → before + kernels_in (step_view k) ≤ after → all ≤ after + kernels_of (map step_view (drop (i + 1) steps))
+  ticks_next before after all h e = omega (arith, h, e, at kernels_of, sum_by-cons kernels_in (step_view k) (map step_view (drop (i + 1) steps)))
 
   pub answer_next : (cs next : List Series) (all : List PlainStep) (initial : List Series) → ((r : Result (List Series) PxError) → StepsAnswer r (map step_view (drop i steps)) cs → StepsAnswer r all initial)
       → StepAnswers (Ok next) (step_view k) cs → (r : Result (List Series) PxError) → StepsAnswer r (map step_view (drop (i + 1) steps)) next → StepsAnswer r all initial

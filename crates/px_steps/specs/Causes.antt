@@ -4,8 +4,7 @@ use Rattle.px_column.specs.Prelude.{Series}
 use Rattle.px_value.specs.declared.error.PxError.{PxError}
 use Rattle.px_value.specs.declared.error.PxError.TheVariants.{ComputeError, OutOfMemory}
 use Rattle.px_value.specs.declared.error.ComputeWhy.TheVariants.{TooLong}
-use Rattle.px_expr.specs.Planned.{Planned}
-use Rattle.px_expr.specs.Value.{IsCause, IsOneOf}
+use Rattle.px_expr.specs.Value.{IsOneOf}
 use Rattle.px_frame.specs.External.{Frame, alone, height}
 use Rattle.px_steps.specs.Plain.{first_refusal, step_faults, step_on, step_size}
 use Rattle.px_tree.specs.Step.{PlainStep}
@@ -48,8 +47,3 @@ StepAnswers (Err e) s frame = (e ≡ OutOfMemory) ⊎ IsStepCause e s (alone fra
 abbrev pub StepsAnswer : Result (List Series) PxError → List PlainStep → List Series → Type 0
 StepsAnswer (Ok made) steps frame = AreRun steps (alone frame) (alone made)
 StepsAnswer (Err e) steps frame = IsCauseIn e steps (alone frame)
-
--- why some planned expressions have no values: memory was wanting, or one of them has none for this cause
-abbrev pub IsCauseOfAny : PxError → List Planned → Frame → Type 0
-IsCauseOfAny e [] frame = e ≡ OutOfMemory
-IsCauseOfAny e (p ∷ ps) frame = IsCause e p frame ⊎ IsCauseOfAny e ps frame

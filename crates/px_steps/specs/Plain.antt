@@ -11,6 +11,7 @@ use Rattle.px_value.specs.declared.error.PxError.TheVariants.{Duplicate, Invalid
 use Rattle.px_value.specs.declared.error.InvalidWhy.TheVariants.{ListKey}
 use Rattle.px_value.specs.declared.error.ComputeWhy.TheVariants.{NoKey, NotPartitionSafe, ChunkLengths}
 use Rattle.px_frame.specs.Cell.{Cell, value_of_cell}
+use Rattle.px_expr.specs.Counted.{flat_kernels}
 use Rattle.px_frame.specs.External.{Frame, height, scope_of, rows_of_frame}
 use Rattle.px_frame.specs.Frame.{height_of, first_repeat, kept_series}
 use Rattle.px_frame.specs.Groups.{first_row}
@@ -194,3 +195,14 @@ groupings_in _ = 0
 -- how many times such steps form groups
 abbrev pub groupings_of : List PlainStep → ℕ
 groupings_of steps = sum_by groupings_in steps
+
+-- how many kernels a step runs at least: those of its flat expressions. Of aggregations none are counted: they are evaluated on
+-- each group, of which there may be none
+abbrev pub kernels_in : PlainStep → ℕ
+kernels_in (select es) = sum_by flat_kernels es
+kernels_in (filter e) = flat_kernels e
+kernels_in (group keys aggs chunks) = sum_by flat_kernels keys
+
+-- how many kernels some steps run at least
+abbrev pub kernels_of : List PlainStep → ℕ
+kernels_of steps = sum_by kernels_in steps

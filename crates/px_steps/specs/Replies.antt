@@ -1,8 +1,8 @@
 -- What a reply tells of its input.
-use Rattle.std.specs.Prelude.{◌≡◌, ℕ, ◌+◌, List}
+use Rattle.std.specs.Prelude.{◌≡◌, ◌≤◌, ℕ, ◌+◌, List}
 use Rattle.px_document.specs.Label.{bad_document_line}
 use Rattle.px_document.specs.Document.{Doc}
-use Rattle.px_steps.specs.Plain.{groupings_of}
+use Rattle.px_steps.specs.Plain.{groupings_of, kernels_of}
 use Rattle.px_document.specs.DocumentText.{IsDocument}
 use Rattle.px_steps.specs.Reply.{IsResult, IsRefusal, IsNoDocument}
 use Rattle.px_steps.specs.declared.reply.Reply.{Reply}
@@ -19,3 +19,9 @@ abbrev pub Grouped : List ℕ → Reply → ℕ → ℕ → Type 0
 Grouped bytes (Frame text) old new = (doc : Doc) → IsDocument bytes doc → new ≡ old + groupings_of doc.steps
 Grouped bytes (Refusal text) old new = Unit {0}
 Grouped bytes BadDocument old new = Unit {0}
+
+-- a frame was made by at least the kernels that the document's steps run
+abbrev pub Ticked : List ℕ → Reply → ℕ → ℕ → Type 0
+Ticked bytes (Frame text) old new = (doc : Doc) → IsDocument bytes doc → old + kernels_of doc.steps ≤ new
+Ticked bytes (Refusal text) old new = Unit {0}
+Ticked bytes BadDocument old new = Unit {0}

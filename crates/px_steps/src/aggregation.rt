@@ -1,5 +1,5 @@
 //! An aggregation's value for each group of rows.
-ghost use Rattle.std.specs.Prelude.{◌≡◌, ◌<◌, ◌^◌, ◌∷◌, [], Some, IfOk, IfSome, Ok, OnOk, option_map, length, map, true, vec_len};
+ghost use Rattle.std.specs.Prelude.{◌≡◌, ◌<◌, ◌≤◌, ◌^◌, ◌∷◌, [], Some, IfOk, IfSome, Ok, OnOk, option_map, length, map, true, vec_len};
 ghost use Rattle.px_column.specs.Prelude.{AnswersBy, Kind, slot_fits, slots_fit, kind_of, slot_at, slot_of, slots_of};
 ghost use Rattle.px_column.specs.Option.{each};
 ghost use Rattle.px_value.specs.declared.method.GroupByMethod.TheVariants.{Sum};
@@ -23,9 +23,9 @@ ghost use Rattle.px_steps.specs.Finds.{Finds, FindsBy, FitsGrouped, IsAccepted, 
 ghost use Rattle.px_steps.specs.Meets.{Meets, MeetsBy};
 ghost use Rattle.px_steps.specs.Plain.{agg_refusals, aggregated_on, grouped_kind, value_on_part};
 
-use crate::planning::{cell_on, plan_expr};
+use crate::planning::plan_expr;
 use px_column::{Column, DataType, GroupByMethod, Name, Px, PxError, Steps, Value};
-use px_expr::{PhysExpr, PhysicalExpr};
+use px_expr::{PhysExpr, PhysicalExpr, evaluate_cell};
 use px_frame::{Cell, DataFrame, GroupPositions, SchemaRef, agg_sum};
 use px_plan::{AggExpr, Context, Expr, output_name, type_of};
 use px_window::ExecutionState;
@@ -41,7 +41,8 @@ fn column_sum<L: Ledger>(
     kernels: &mut Steps<L>,
 ) -> Px<Column>
     requires { groups.now.height ≡ height_of frame.now }
-    ensures { Meets result (direct.agg_refusals frame.now (agg Sum (column name.now))) (direct.aggregated_on frame.now (rows_of groups.now) (agg Sum (column name.now))) }
+    ensures answer { Meets result (direct.agg_refusals frame.now (agg Sum (column name.now))) (direct.aggregated_on frame.now (rows_of groups.now) (agg Sum (column name.now))) }
+    ensures rises { OnOk result (kernels.old ≤ kernels.new) }
 {
     match frame.column(name) {
         Some(column) => agg_sum(alloc, column, groups, kernels),
@@ -104,6 +105,7 @@ fn first_value(alloc: Global, column: &Column) -> Px<Option<Value>>
 fn cell_value<L: Ledger>(alloc: Global, cell: &Cell, kernels: &mut Steps<L>) -> Px<Option<Value>>
     ensures value { AnswersBy slot_of result (Ok (value_of_cell (named_cell cell.now).cell)) }
     ensures fits { IfOk result (λ s. slot_fits (value_kind (named_cell cell.now)) (slot_of s) ≡ true) }
+    ensures rises { OnOk result (kernels.old ≤ kernels.new) }
 {
     match cell {
         Cell::Unit(unit) => first_value(alloc, unit.as_column()),
@@ -132,9 +134,10 @@ fn value_of_rows<L: Ledger, M: Ledger>(
     ensures fits { IfOk result (λ s. FitsGrouped (plan_of node.now).tree frame.now (slot_of s)) }
     ensures state { state.new ≡ state.old }
     ensures grouped { groupings.new ≡ groupings.old }
+    ensures rises { OnOk result (kernels.old ≤ kernels.new) }
 {
     let part = frame.take_rows(alloc, rows)?;
-    let cell = cell_on(alloc, &part, node, state, kernels, groupings)?;
+    let cell = evaluate_cell(alloc, node, &part, state, kernels, groupings)?;
     cell_value(alloc, &cell, kernels)
 }
 
@@ -156,6 +159,7 @@ fn values_of_groups<L: Ledger, M: Ledger>(
     ensures few { IfOk result (λ v. vec_len v < 2 ^ 32) }
     ensures state { state.new ≡ state.old }
     ensures grouped { groupings.new ≡ groupings.old }
+    ensures rises { OnOk result (kernels.old ≤ kernels.new) }
 {
     let mut values = Vec::with_capacity(alloc, groups.len() as usize)?;
     for index in 0..groups.len() {
@@ -200,6 +204,7 @@ fn aggregate_by_parts<L: Ledger, M: Ledger>(
         (part_faults (alone frame.now) (rows_of groups.now) (tree expr.now)) (size_on (tree expr.now) (part_frames (alone frame.now) (rows_of groups.now))) }
     ensures state { state.new ≡ state.old }
     ensures grouped { groupings.new ≡ groupings.old }
+    ensures rises { OnOk result (kernels.old ≤ kernels.new) }
 {
     let node = plan_expr(alloc, expr, schema, Context::Aggregation)?;
     let name = output_name(alloc, expr)?;
@@ -229,6 +234,7 @@ pub(crate) fn aggregate<L: Ledger, M: Ledger>(
         (part_faults (alone frame.now) (rows_of groups.now) (tree expr.now)) (size_on (tree expr.now) (part_frames (alone frame.now) (rows_of groups.now))) }
     ensures state { state.new ≡ state.old }
     ensures grouped { groupings.new ≡ groupings.old }
+    ensures rises { OnOk result (kernels.old ≤ kernels.new) }
 {
     if is_length(expr) {
         return group_lengths(alloc, frame, groups);

@@ -1,11 +1,12 @@
 //! A filter step: the rows of a frame whose mask is true.
-ghost use Rattle.std.specs.Prelude.{◌≡◌, Some, true};
+ghost use Rattle.std.specs.Prelude.{◌≡◌, ◌+◌, ◌≤◌, Some, OnOk, true};
 ghost use Rattle.px_tree.specs.Built.{is_built_tree};
 ghost use Rattle.px_tree.specs.Step.{filter};
 ghost use Rattle.px_tree.specs.View.{tree};
 ghost use Rattle.px_steps.specs.Causes.{StepAnswers};
 ghost use Rattle.px_steps.specs.Finds.{mask_refusals};
 ghost use Rattle.px_steps.specs.Meets.{Meets};
+ghost use Rattle.px_steps.specs.Plain.{kernels_in};
 
 use crate::planning::spread_value;
 use px_column::{Px, PxError, Steps, is_boolean};
@@ -43,6 +44,7 @@ pub(crate) fn filter_step<L: Ledger, M: Ledger>(
     ensures answer { StepAnswers result (filter (tree mask.now)) frame.now }
     ensures state { state.new ≡ state.old }
     ensures grouped { groupings.new ≡ groupings.old }
+    ensures ticks { OnOk result (kernels.old + kernels_in (filter (tree mask.now)) ≤ kernels.new) }
 {
     let schema = Rc::new(alloc, frame.schema(alloc)?)?;
     accept_mask(alloc, mask, &schema)?;

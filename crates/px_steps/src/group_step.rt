@@ -1,9 +1,10 @@
 //! A group step: one row for each part of a frame by keys.
 ghost use Rattle.std.specs.Prelude.{◌≡◌, ◌+◌, ◌<◌, ◌≤◌, ◌^◌, ◌++◌, ◌∷◌, [], None, Ok, Some, IfOk, OnOk, length, map, true};
-ghost use Rattle.std.specs.List.{flat_map, list_all};
+ghost use Rattle.std.specs.List.{flat_map, list_all, sum_by};
 ghost use Rattle.px_column.specs.Prelude.{Answers};
 ghost use Rattle.px_column.specs.Option.{each};
 ghost use Rattle.px_tree.specs.Built.{is_built_tree};
+ghost use Rattle.px_expr.specs.Counted.{flat_kernels};
 ghost use Rattle.px_frame.specs.Aggregate.{has_row};
 ghost use Rattle.px_frame.specs.External.{alone};
 ghost use Rattle.px_frame.specs.Frame.{first_repeat, height_of, names_of};
@@ -20,7 +21,7 @@ ghost use Rattle.px_steps.specs.Causes.{StepAnswers};
 ghost use Rattle.px_steps.specs.Finds.{Finds, FindsBy, key_faults, part_faults, part_frames, typed_key_refusals};
 ghost use Rattle.px_document.specs.Form.{with_front};
 ghost use Rattle.px_steps.specs.Meets.{Meets, MeetsBy};
-ghost use Rattle.px_steps.specs.Plain.{agg_refusals, aggregated_on, columns_on, greatest, key_on, key_refusals, repeat_refusal, step_refusals};
+ghost use Rattle.px_steps.specs.Plain.{agg_refusals, aggregated_on, columns_on, greatest, kernels_in, key_on, key_refusals, repeat_refusal, step_refusals};
 ghost use Rattle.px_tree.specs.Step.{group};
 
 use crate::aggregation::aggregate;
@@ -121,6 +122,7 @@ fn key_columns<L: Ledger, M: Ledger>(
         (flat_map (key_faults (alone frame.now)) (map tree keys.now)) (greatest (map (λ t. size_on t (alone frame.now ∷ [])) (map tree keys.now))) }
     ensures state { state.new ≡ state.old }
     ensures grouped { groupings.new ≡ groupings.old }
+    ensures ticks { OnOk result (kernels.old + sum_by flat_kernels (map tree keys.now) ≤ kernels.new) }
 {
     let mut columns = Vec::with_capacity(alloc, keys.len())?;
     for key in keys {
@@ -150,6 +152,7 @@ fn push_aggregations<L: Ledger, M: Ledger>(
         (flat_map (part_faults (alone frame.now) (rows_of groups.now)) (map tree aggs.now)) (greatest (map (λ t. size_on t (part_frames (alone frame.now) (rows_of groups.now))) (map tree aggs.now))) }
     ensures state { state.new ≡ state.old }
     ensures grouped { groupings.new ≡ groupings.old }
+    ensures rises { OnOk result (kernels.old ≤ kernels.new) }
 {
     for expr in aggs {
         columns.push(aggregate(
@@ -200,6 +203,7 @@ fn grouped_frame<L: Ledger, M: Ledger>(
     ensures short { IfOk result (λ f. height_of f < 2 ^ 32) }
     ensures state { state.new ≡ state.old }
     ensures grouped { groupings.new ≡ groupings.old + 1 }
+    ensures rises { OnOk result (kernels.old ≤ kernels.new) }
 {
     let groups = grouping(alloc, frame, by, groupings)?;
     let mut columns = key_rows(alloc, by, &groups)?;
@@ -235,6 +239,7 @@ pub(crate) fn group_step<L: Ledger, M: Ledger>(
     ensures state { state.new ≡ state.old }
     ensures grouped { OnOk result (groupings.new ≡ groupings.old + 1) }
     ensures once { groupings.new ≤ groupings.old + 1 }
+    ensures ticks { OnOk result (kernels.old + kernels_in (group (map tree keys.now) (map tree aggs.now) None) ≤ kernels.new) }
 {
     let schema = accept_step(alloc, frame, keys, aggs)?;
     let by = key_columns(alloc, frame, keys, &schema, state, kernels, groupings)?;

@@ -1,26 +1,23 @@
 //! Expressions as nodes, and what these give on a frame.
-ghost use Rattle.std.specs.Prelude.{◌≡◌, ◌++◌, ◌∷◌, [], Some, IfOk, IfErr, OnOk, map, true};
+ghost use Rattle.std.specs.Prelude.{◌≡◌, ◌+◌, ◌≤◌, ◌++◌, ◌∷◌, [], Some, OnOk, map, true};
 ghost use Rattle.px_tree.specs.Built.{is_built_tree};
+ghost use Rattle.px_expr.specs.Counted.{flat_kernels};
 ghost use Rattle.px_expr.specs.NodeView.{plan_of};
 ghost use Rattle.px_expr.specs.Plan.{planned_over};
-ghost use Rattle.px_expr.specs.Value.{IsCause};
-ghost use Rattle.px_frame.specs.CellView.{named_cell};
 ghost use Rattle.px_frame.specs.External.{alone};
-ghost use Rattle.px_frame.specs.Cell.{is_unit_cell};
 ghost use Rattle.px_frame.specs.Schema.{column_field};
-ghost use Rattle.px_tree.specs.Shape.{is_unit, name_of};
+ghost use Rattle.px_tree.specs.Shape.{name_of};
 ghost use Rattle.px_tree.specs.Size.{size_on};
 ghost use Rattle.px_tree.specs.Typing.{refusals_of};
-ghost use Rattle.px_tree.specs.Value.{faults_on};
 ghost use Rattle.px_tree.specs.View.{tree};
 ghost use Rattle.px_steps.specs.Finds.{Finds, key_faults, repeat_beside};
 ghost use Rattle.px_steps.specs.Meets.{Meets, MeetsBy};
-ghost use Rattle.px_steps.specs.Plain.{frame_refusals, key_on, named_value};
+ghost use Rattle.px_steps.specs.Plain.{frame_refusals, key_on};
 
 use indexmap::IndexSet;
 use px_column::{Column, Name, Px, PxError, Steps};
-use px_expr::{ExpressionConversionState, PhysExpr, PhysicalExpr, create_physical_expr};
-use px_frame::{Cell, DataFrame, SchemaRef, UnitColumn, add_name, spread};
+use px_expr::{ExpressionConversionState, PhysExpr, create_physical_expr, evaluate_cell};
+use px_frame::{DataFrame, SchemaRef, add_name, spread};
 use px_plan::{Arena, Context, Expr, ExprIR, fits_arena, output_name, to_arena};
 use px_window::ExecutionState;
 use std::alloc::Global;
@@ -58,30 +55,6 @@ pub(crate) fn add_names(alloc: Global, names: &mut IndexSet<Name>, exprs: &[Expr
     Ok(())
 }
 
-/// The value of a planned expression, as one value or one for each of some rows.
-pub(crate) fn cell_on<L: Ledger, M: Ledger>(
-    alloc: Global,
-    frame: &DataFrame,
-    node: &PhysExpr,
-    state: &mut ExecutionState,
-    kernels: &mut Steps<L>,
-    groupings: &mut Steps<M>,
-) -> Px<Cell>
-    ensures value { IfOk result (λ c. named_value (alone frame.now) (plan_of node.now).tree ≡ Some (named_cell c)) }
-    ensures shape { IfOk result (λ c. is_unit_cell (named_cell c).cell ≡ is_unit (plan_of node.now).tree) }
-    ensures sound { OnOk result (faults_on (plan_of node.now).tree (alone frame.now) ≡ []) }
-    ensures causes { IfErr result (λ e. IsCause e (plan_of node.now) (alone frame.now)) }
-    ensures state { state.new ≡ state.old }
-    ensures grouped { groupings.new ≡ groupings.old }
-{
-    let column = node.evaluate(alloc, frame, state, kernels, groupings)?;
-    if node.is_scalar() {
-        Ok(Cell::Unit(UnitColumn::new(column)))
-    } else {
-        Ok(Cell::Rows(column))
-    }
-}
-
 /// The value of an expression that is not refused, brought to the frame's height.
 pub(crate) fn spread_value<L: Ledger, M: Ledger>(
     alloc: Global,
@@ -98,8 +71,9 @@ pub(crate) fn spread_value<L: Ledger, M: Ledger>(
     ensures answer { Finds result (key_on (alone frame.now) (tree expr.now)) (key_faults (alone frame.now) (tree expr.now)) (size_on (tree expr.now) (alone frame.now ∷ [])) }
     ensures state { state.new ≡ state.old }
     ensures grouped { groupings.new ≡ groupings.old }
+    ensures ticks { OnOk result (kernels.old + flat_kernels (tree expr.now) ≤ kernels.new) }
 {
     let node = plan_expr(alloc, expr, schema, Context::Default)?;
-    let cell = cell_on(alloc, frame, &node, state, kernels, groupings)?;
+    let cell = evaluate_cell(alloc, &node, frame, state, kernels, groupings)?;
     spread(alloc, cell, frame.height())
 }

@@ -4,7 +4,7 @@ ghost use Rattle.px_document.specs.Document.{Doc};
 ghost use Rattle.px_ends.specs.Ends.{GivesFront, Rose, TakesAll, TakesPart};
 ghost use Rattle.px_document.specs.Label.{bad_document_line};
 ghost use Rattle.px_frame.specs.External.{alone};
-ghost use Rattle.px_steps.specs.Plain.{AreValid, groupings_of};
+ghost use Rattle.px_steps.specs.Plain.{AreValid, groupings_of, kernels_of};
 ghost use Rattle.px_document.specs.DocumentText.{IsDocument};
 ghost use Rattle.px_steps.specs.Run.{Calm, Ends, IsCommand, Silent};
 
@@ -62,6 +62,10 @@ fn answer<K: Sink, L: Ledger, M: Ledger>(
         result ≡ Status.Done →
         IsDocument bytes.now doc →
         groupings.new ≡ groupings.old + groupings_of doc.steps }
+    ensures ticks { (doc : Doc) →
+        result ≡ Status.Done →
+        IsDocument bytes.now doc →
+        kernels.old + kernels_of doc.steps ≤ kernels.new }
 {
     match reply_to(alloc, bytes, kernels, groupings) {
         Ok(Reply::Frame(text)) => write_text(sink, text.as_slice(), Status::Done),
@@ -99,6 +103,11 @@ fn run_command<S: Source, K: Sink, L: Ledger, M: Ledger>(
         S.left source.old ≡ Some b →
         IsDocument b doc →
         groupings.new ≡ groupings.old + groupings_of doc.steps }
+    ensures ticks { (b : List ℕ) (doc : Doc) →
+        result ≡ Status.Done →
+        S.left source.old ≡ Some b →
+        IsDocument b doc →
+        kernels.old + kernels_of doc.steps ≤ kernels.new }
 {
     match read_all(alloc, source) {
         Ok(bytes) => answer(alloc, &bytes, sink, kernels, groupings),
@@ -163,6 +172,12 @@ pub fn run<S: Source, K: Sink, L: Ledger, M: Ledger>(
         S.left source.old ≡ Some b →
         IsDocument b doc →
         groupings.new ≡ groupings.old + groupings_of doc.steps }
+    // Kernels run at least once for each node of a flat expression that has one.
+    ensures ticks { (b : List ℕ) (doc : Doc) →
+        result ≡ Status.Done →
+        S.left source.old ≡ Some b →
+        IsDocument b doc →
+        kernels.old + kernels_of doc.steps ≤ kernels.new }
 {
     if is_command(words) {
         run_command(alloc, source, sink, kernels, groupings)

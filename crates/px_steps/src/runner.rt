@@ -1,11 +1,11 @@
 //! Steps run one after another.
-ghost use Rattle.std.specs.Prelude.{◌≡◌, ◌+◌, Some, IfOk, IfErr, OnOk, map, true};
+ghost use Rattle.std.specs.Prelude.{◌≡◌, ◌+◌, ◌≤◌, Some, IfOk, IfErr, OnOk, map, true};
 ghost use Rattle.std.specs.List.{list_all};
 ghost use Rattle.px_value.specs.declared.error.PxError.TheVariants.{OutOfMemory};
 ghost use Rattle.px_frame.specs.External.{alone};
 ghost use Rattle.px_tree.specs.Built.{is_built};
 ghost use Rattle.px_steps.specs.Causes.{AreRun, IsCauseIn, StepAnswers, StepsAnswer};
-ghost use Rattle.px_steps.specs.Plain.{AreValid, groupings_in, groupings_of, plain_on};
+ghost use Rattle.px_steps.specs.Plain.{AreValid, groupings_in, groupings_of, kernels_in, kernels_of, plain_on};
 ghost use Rattle.px_tree.specs.Step.{step_view};
 
 use crate::filter_step::filter_step;
@@ -31,6 +31,7 @@ fn run_step<L: Ledger, M: Ledger>(
     ensures answer { StepAnswers result (step_view step.now) frame.now }
     ensures state { state.new ≡ state.old }
     ensures grouped { OnOk result (groupings.new ≡ groupings.old + groupings_in (step_view step.now)) }
+    ensures ticks { OnOk result (kernels.old + kernels_in (step_view step.now) ≤ kernels.new) }
 {
     match step {
         Step::Select(exprs) => select_step(alloc, frame, exprs, state, kernels, groupings),
@@ -54,6 +55,7 @@ fn run_each<L: Ledger, M: Ledger>(
     ensures answer { StepsAnswer result (map step_view steps.now) frame }
     ensures state { state.new ≡ state.old }
     ensures grouped { OnOk result (groupings.new ≡ groupings.old + groupings_of (map step_view steps.now)) }
+    ensures ticks { OnOk result (kernels.old + kernels_of (map step_view steps.now) ≤ kernels.new) }
 {
     let mut frame = frame;
     for step in steps {
@@ -86,6 +88,8 @@ pub fn run_steps<L: Ledger, M: Ledger>(
     ensures state { state.new ≡ state.old }
     // Groups are formed once for each group step.
     ensures grouped { OnOk result (groupings.new ≡ groupings.old + groupings_of (map step_view steps.now)) }
+    // Kernels run at least once for each node of a flat expression that has one.
+    ensures ticks { OnOk result (kernels.old + kernels_of (map step_view steps.now) ≤ kernels.new) }
 {
     match steps {
         [] => frame.try_clone(alloc),

@@ -1,27 +1,22 @@
 //! A select step: the columns of some expressions, side by side.
-ghost use Rattle.std.specs.Prelude.{◌≡◌, [], Some, IfOk, IfErr, OnOk, map, true};
+ghost use Rattle.std.specs.Prelude.{◌≡◌, ◌+◌, ◌≤◌, Some, OnOk, map, true};
 ghost use Rattle.std.specs.List.{flat_map, list_all};
-ghost use Rattle.px_column.specs.Option.{each};
 ghost use Rattle.px_tree.specs.Built.{is_built_tree};
 ghost use Rattle.px_expr.specs.NodeView.{plan_of};
 ghost use Rattle.px_expr.specs.Plan.{planned_over};
-ghost use Rattle.px_expr.specs.Value.{IsCause};
-ghost use Rattle.px_frame.specs.CellView.{named_cell};
-ghost use Rattle.px_frame.specs.External.{alone};
 ghost use Rattle.px_tree.specs.Typing.{refusals_of};
-ghost use Rattle.px_tree.specs.Value.{faults_on};
 ghost use Rattle.px_tree.specs.View.{tree};
 ghost use Rattle.px_tree.specs.declared.context.Context.TheVariants.{Default};
-ghost use Rattle.px_steps.specs.Causes.{IsCauseOfAny, StepAnswers};
+ghost use Rattle.px_steps.specs.Causes.{StepAnswers};
 ghost use Rattle.px_steps.specs.Meets.{Meets, MeetsBy};
-ghost use Rattle.px_steps.specs.Plain.{named_value, repeat_refusal};
+ghost use Rattle.px_steps.specs.Plain.{kernels_in, repeat_refusal};
 ghost use Rattle.px_tree.specs.Step.{select};
 
-use crate::planning::{add_names, cell_on, plan_expr};
+use crate::planning::{add_names, plan_expr};
 use indexmap::IndexSet;
 use px_column::{Px, Steps};
-use px_expr::PhysExpr;
-use px_frame::{Cell, DataFrame, SchemaRef, assemble};
+use px_expr::{PhysExpr, evaluate_cells};
+use px_frame::{DataFrame, SchemaRef, assemble};
 use px_plan::{Context, Expr};
 use px_window::ExecutionState;
 use std::alloc::Global;
@@ -49,28 +44,6 @@ fn distinct_names(alloc: Global, exprs: &[Expr]) -> Px<()>
     add_names(alloc, &mut IndexSet::new(alloc), exprs)
 }
 
-/// The values of some planned expressions.
-fn cells_on<L: Ledger, M: Ledger>(
-    alloc: Global,
-    frame: &DataFrame,
-    nodes: &[PhysExpr],
-    state: &mut ExecutionState,
-    kernels: &mut Steps<L>,
-    groupings: &mut Steps<M>,
-) -> Px<Vec<Cell>>
-    ensures values { IfOk result (λ v. each (λ n. named_value (alone frame.now) (plan_of n).tree) nodes.now ≡ Some (map named_cell v.items)) }
-    ensures sound { OnOk result (flat_map (λ n. faults_on (plan_of n).tree (alone frame.now)) nodes.now ≡ []) }
-    ensures causes { IfErr result (λ e. IsCauseOfAny e (map plan_of nodes.now) (alone frame.now)) }
-    ensures state { state.new ≡ state.old }
-    ensures grouped { groupings.new ≡ groupings.old }
-{
-    let mut cells = Vec::with_capacity(alloc, nodes.len())?;
-    for node in nodes {
-        cells.push(cell_on(alloc, frame, node, state, kernels, groupings)?)?;
-    }
-    Ok(cells)
-}
-
 /// The columns of these expressions side by side. All expressions are typed before the first is
 /// evaluated: the first refusal from the left, then `Duplicate` with the first name that stands
 /// twice, then the faults of values, and `ShapeMismatch` where lists differ in length.
@@ -86,10 +59,11 @@ pub(crate) fn select_step<L: Ledger, M: Ledger>(
     ensures answer { StepAnswers result (select (map tree exprs.now)) frame.now }
     ensures state { state.new ≡ state.old }
     ensures grouped { groupings.new ≡ groupings.old }
+    ensures ticks { OnOk result (kernels.old + kernels_in (select (map tree exprs.now)) ≤ kernels.new) }
 {
     let schema = Rc::new(alloc, frame.schema(alloc)?)?;
     let nodes = plan_all(alloc, exprs, &schema)?;
     distinct_names(alloc, exprs)?;
-    let cells = cells_on(alloc, frame, &nodes, state, kernels, groupings)?;
+    let cells = evaluate_cells(alloc, &nodes, frame, state, kernels, groupings)?;
     assemble(alloc, cells)
 }

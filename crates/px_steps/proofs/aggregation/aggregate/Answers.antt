@@ -26,7 +26,8 @@ returns-in-Some g c =
     let is : tree c.args.expr.now ≡ agg Sum (column n) = c.in-Some.ensures in
     record {
       answer = subst (λ (t : Tree). Finds c.column_sum.result (aggregated_on F parts t) (part_faults F parts t) (size_on t (part_frames F parts))) (sym is)
-          (sum_finds n c.args.frame.now parts c.column_sum.result _ (ap (agg_refusals F) (sym is) ∙ c.requires.accepted) c.column_sum.ensures);
+          (sum_finds n c.args.frame.now parts c.column_sum.result _ (ap (agg_refusals F) (sym is) ∙ c.requires.accepted) c.column_sum.ensures.answer);
       state = refl;
       grouped = refl;
+      rises = c.column_sum.ensures.rises;
     }

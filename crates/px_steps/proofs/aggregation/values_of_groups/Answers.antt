@@ -56,4 +56,5 @@ loop-index-preserved g c =
       counted = omega (arith, c.in_ok-push.ensures.len, inv.counted);
       state = c.in_ok-value_of_rows.ensures.state ∙ inv.state;
       grouped = c.in_ok-value_of_rows.ensures.grouped ∙ inv.grouped;
+      rises = omega (arith, inv.rises, c.in_ok-value_of_rows.ensures.rises);
     }

@@ -1,4 +1,4 @@
-use Rattle.std.proofs.Common.{◌≡◌, Some, drop, map, true, vec_len}
+use Rattle.std.proofs.Common.{◌≡◌, ◌≤◌, Some, drop, map, true, vec_len}
 use Rattle.px_column.specs.Prelude.{Kind, slots_fit, slots_of}
 use Rattle.px_column.specs.Option.{each}
 use Rattle.px_expr.specs.NodeView.{plan_of}
@@ -20,4 +20,5 @@ invariant-loop-index g l = record {
   counted : vec_len l.values ≡ l.index;
   state : l.state ≡ l.initial.state;
   grouped : l.groupings ≡ l.initial.groupings;
+  rises : l.initial.kernels ≤ l.kernels;
 }

@@ -1,13 +1,14 @@
 use Rattle.std.proofs.Common.{◌∙◌, ◌∷◌, [], map}
 use Rattle.std.proofs.lemmas.Result.{err_from_is_err_and}
 use Rattle.px_tree.specs.Built.{is_built_tree}
+use Rattle.px_expr.specs.Counted.{flat_kernels}
 use Rattle.px_frame.specs.External.{alone}
 use Rattle.px_tree.specs.Size.{size_on}
 use Rattle.px_tree.specs.View.{tree}
 use Rattle.px_steps.specs.Finds.{key_faults}
 use Rattle.px_steps.specs.Plain.{frame_refusals, key_on, key_refusals}
 use Rattle.px_tree.proofs.KindLaws.{none_left as nil_left}
-use Rattle.px_steps.proofs.Members.{in_all, in_here, in_none, lacks_in, sound_next, values_next}
+use Rattle.px_steps.proofs.Members.{in_all, in_here, in_none, lacks_in, least_next, sound_next, values_next}
 use Rattle.px_steps.proofs.group_step.key_columns.Goals as goal
 
 pub spread_value-requires-clause-built : goal.spread_value-requires-clause-built
@@ -41,4 +42,5 @@ loop-key-preserved g c =
       sound = sound_next tree keys i k c.loop-key-test.true c.key-item.is (key_faults F) _ inv.sound found.0;
       state = c.in_ok-spread_value.ensures.state ∙ inv.state;
       grouped = c.in_ok-spread_value.ensures.grouped ∙ inv.grouped;
+      ticks = least_next tree keys i k c.loop-key-test.true c.key-item.is flat_kernels _ c.loop-key.kernels _ inv.ticks c.in_ok-spread_value.ensures.ticks;
     }

@@ -1,6 +1,7 @@
-use Rattle.std.proofs.Common.{◌≡◌, map, drop}
-use Rattle.std.specs.List.{flat_map}
+use Rattle.std.proofs.Common.{◌≡◌, ◌+◌, ◌≤◌, map, drop}
+use Rattle.std.specs.List.{flat_map, sum_by}
 use Rattle.px_column.specs.Option.{each}
+use Rattle.px_expr.specs.Counted.{flat_kernels}
 use Rattle.px_frame.specs.External.{alone}
 use Rattle.px_tree.specs.View.{tree}
 use Rattle.px_steps.specs.Finds.{key_faults}
@@ -14,4 +15,5 @@ invariant-loop-key g l = record {
   sound : flat_map (key_faults (alone l.frame)) (map tree (drop l.key-index l.keys)) ≡ flat_map (key_faults (alone l.frame)) (map tree l.keys);
   state : l.state ≡ l.initial.state;
   grouped : l.groupings ≡ l.initial.groupings;
+  ticks : l.initial.kernels + sum_by flat_kernels (map tree l.keys) ≤ l.kernels + sum_by flat_kernels (map tree (drop l.key-index l.keys));
 }

@@ -1,4 +1,4 @@
-use Rattle.std.proofs.Common.{◌∙◌, map}
+use Rattle.std.proofs.Common.{◌∙◌, arith, map}
 use Rattle.std.proofs.lemmas.Result.{err_from_is_err_and}
 use Rattle.px_tree.specs.Built.{is_built_tree}
 use Rattle.px_frame.specs.External.{alone}
@@ -41,4 +41,5 @@ loop-expr-preserved g c =
       sound = sound_next tree aggs i k c.loop-expr-test.true c.expr-item.is (part_faults F parts) _ inv.sound found.0;
       state = c.in_ok-aggregate.ensures.state ∙ inv.state;
       grouped = c.in_ok-aggregate.ensures.grouped ∙ inv.grouped;
+      rises = omega (arith, inv.rises, c.in_ok-aggregate.ensures.rises);
     }

@@ -1,4 +1,4 @@
-use Rattle.std.proofs.Common.{◌≡◌, map, drop}
+use Rattle.std.proofs.Common.{◌≡◌, ◌≤◌, map, drop}
 use Rattle.std.specs.List.{flat_map}
 use Rattle.px_column.specs.Option.{each}
 use Rattle.px_frame.specs.External.{alone}
@@ -16,4 +16,5 @@ invariant-loop-expr g l = record {
   sound : flat_map (part_faults (alone l.frame) (rows_of l.groups)) (map tree (drop l.expr-index l.aggs)) ≡ flat_map (part_faults (alone l.frame) (rows_of l.groups)) (map tree l.aggs);
   state : l.state ≡ l.initial.state;
   grouped : l.groupings ≡ l.initial.groupings;
+  rises : l.initial.kernels ≤ l.kernels;
 }

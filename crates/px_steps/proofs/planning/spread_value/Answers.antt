@@ -1,5 +1,7 @@
-use Rattle.std.proofs.Common.{◌≡◌, ◌∙◌, [], ap, inl, sym}
+use Rattle.std.proofs.Common.{◌≡◌, ◌≤◌, ◌+◌, ◌∙◌, [], ap, inl, subst, sym}
 use Rattle.std.proofs.lemmas.Result.{err_from_is_err_and}
+use Rattle.px_expr.proofs.CellsInOrder.{least_here}
+use Rattle.px_expr.specs.Counted.{flat_kernels}
 use Rattle.px_expr.specs.NodeView.{plan_of}
 use Rattle.px_expr.specs.Plan.{planned_over}
 use Rattle.px_expr.specs.Planned.{Planned}
@@ -12,6 +14,8 @@ use Rattle.px_tree.specs.declared.context.Context.TheVariants.{Default}
 use Rattle.px_steps.specs.Plain.{named_value}
 use Rattle.px_steps.proofs.GroupStep.{key_finds, key_lacks}
 use Rattle.px_steps.proofs.Grouping.{no_first}
+use Rattle.px_steps.proofs.Members.{on_ok}
+use Rattle.px_steps.proofs.Selected.{cell_named, cell_sound}
 use Rattle.px_steps.proofs.planning.spread_value.Goals as goal
 
 pub returns-in_err-node-clause-answer : goal.returns-in_err-node-clause-answer
@@ -35,5 +39,13 @@ returns-clause-answer g c =
     let t = tree c.args.expr.now in
     let F = alone c.args.frame.now in
     let made : planned_over c.args.schema.now.value t ≡ plan_of c.in_ok-node.node = cc (c.in_ok-node.ensures.1) in
-    key_finds c.args.frame.now t (named_cell c.in_ok-cell.cell) c.spread.result _ (ap (λ (q : Planned). named_value F q.tree) made ∙ c.in_ok-cell.ensures.value) (ap (λ (q : Planned). faults_on q.tree F) made ∙ c.in_ok-cell.ensures.sound)
+    let found = named_cell c.in_ok-cell.cell in
+    let node = plan_of c.in_ok-node.node in
+    key_finds c.args.frame.now t found c.spread.result _ (ap (λ (q : Planned). named_value F q.tree) made ∙ cell_named node F found c.in_ok-cell.ensures.value) (ap (λ (q : Planned). faults_on q.tree F) made ∙ cell_sound node F found c.in_ok-cell.ensures.value)
     (rw c.height.ensures at c.spread.ensures)
+
+pub returns-clause-ticks : goal.returns-clause-ticks
+returns-clause-ticks g c =
+    let made : planned_over c.args.schema.now.value (tree c.args.expr.now) ≡ plan_of c.in_ok-node.node = cc (c.in_ok-node.ensures.1) in
+    let least = least_here (plan_of c.in_ok-node.node).tree (alone c.args.frame.now) c.args.kernels.now c.evaluate_cell.new.kernels c.in_ok-cell.ensures.ticks c.in_ok-cell.ensures.cost in
+    on_ok c.spread.result (subst (λ (q : Planned). c.args.kernels.now + flat_kernels q.tree ≤ c.evaluate_cell.new.kernels) (sym made) least)

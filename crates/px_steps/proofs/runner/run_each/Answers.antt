@@ -1,6 +1,6 @@
 use Rattle.std.proofs.Common.{Ok, Err, ◌∙◌}
 use Rattle.std.proofs.lemmas.Result.{err_from_is_err_and}
-use Rattle.px_steps.proofs.StepLoop.{built_next, answer_end, answer_next, cause_here, grouped_next}
+use Rattle.px_steps.proofs.StepLoop.{built_next, answer_end, answer_next, cause_here, grouped_next, ticks_next}
 use Rattle.px_steps.proofs.runner.run_each.Goals as goal
 
 pub loop-step-preserved : goal.loop-step-preserved
@@ -14,6 +14,7 @@ loop-step-preserved g c =
       answer = answer_next steps i k c.loop-step-test.true c.step-item.is c.loop-step.frame c.in_ok-frame.frame _ _ inv.answer c.in_ok-frame.ensures.answer;
       state = c.in_ok-frame.ensures.state ∙ inv.state;
       grouped = grouped_next steps i k c.loop-step-test.true c.step-item.is c.loop-step.groupings _ _ inv.grouped c.in_ok-frame.ensures.grouped;
+      ticks = ticks_next steps i k c.loop-step-test.true c.step-item.is c.loop-step.kernels _ _ inv.ticks c.in_ok-frame.ensures.ticks;
     }
 
 pub returns-in_err-frame-clause-answer : goal.returns-in_err-frame-clause-answer

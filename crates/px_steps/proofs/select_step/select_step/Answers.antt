@@ -1,16 +1,17 @@
-use Rattle.std.proofs.Common.{◌≡◌, ◌∙◌, List, map, sym, subst}
+use Rattle.std.proofs.Common.{◌≡◌, ◌≤◌, ◌+◌, ◌∙◌, List, map, sym, subst}
 use Rattle.std.proofs.lemmas.Result.{err_from_is_err_and}
 use Rattle.px_value.specs.declared.error.PxError.{PxError}
+use Rattle.px_expr.specs.Counted.{RunAllAtLeast}
+use Rattle.px_expr.specs.Plan.{planned_over}
 use Rattle.px_expr.specs.Planned.{Planned}
+use Rattle.px_expr.specs.Value.{AreCellsOf, IsCauseOfAny}
 use Rattle.px_frame.specs.CellView.{named_cell}
 use Rattle.px_frame.specs.External.{alone}
 use Rattle.px_frame.specs.Schema.{column_field}
-use Rattle.px_tree.specs.Value.{faults_on}
 use Rattle.px_tree.specs.View.{tree}
-use Rattle.px_steps.specs.Causes.{IsCauseOfAny}
 use Rattle.px_steps.specs.Meets.{IsFirst}
-use Rattle.px_steps.specs.Plain.{named_value}
-use Rattle.px_steps.proofs.Selected.{typing_cause, naming_cause, value_cause, selected, typed_over, nodes_over, each_node, flat_node}
+use Rattle.px_steps.proofs.Selected.{cells_named, cells_sound, least_ticks, naming_cause, nodes_over, selected, typed_over, typing_cause, value_cause}
+use Rattle.px_steps.proofs.Members.{on_ok}
 use Rattle.px_steps.proofs.select_step.select_step.Goals as goal
 
 pub returns-in_err-nodes-clause-answer : goal.returns-in_err-nodes-clause-answer
@@ -48,8 +49,17 @@ returns-clause-answer g c =
     let scope : c.in_ok-schema-2.schema.value ≡ map column_field cs = cc (c.in_ok-schema.ensures, c.in_ok-schema-2.ensures.ok) in
     let nodes = nodes_over c.in_ok-schema-2.schema.value cs ts c.in_ok-nodes.nodes.items scope c.in_ok-nodes.ensures.1 in
     let over = map column_field cs in
-    let items = c.in_ok-nodes.nodes.items in
-    selected ts cs (map named_cell c.in_ok-cells.cells.items) c.assemble.result (sym (typed_over c.in_ok-schema-2.schema.value cs ts scope) ∙ c.in_ok-nodes.ensures.0) c.in_ok-distinct_names.ensures.0
-    (sym (each_node (named_value (alone cs)) over items ts nodes) ∙ (rw c.deref.ensures.value at c.in_ok-cells.ensures.values))
-    (sym (flat_node (λ t. faults_on t (alone cs)) over items ts nodes) ∙ (rw c.deref.ensures.value at c.in_ok-cells.ensures.sound))
-    c.assemble.ensures.answer c.assemble.ensures.short
+    let found = map named_cell c.in_ok-cells.cells.items in
+    let are : AreCellsOf (map (planned_over over) ts) (alone cs) found = subst (λ (ps : List Planned). AreCellsOf ps (alone cs) found) nodes (rw c.deref.ensures.value at c.in_ok-cells.ensures.value) in
+    selected ts cs found c.assemble.result (sym (typed_over c.in_ok-schema-2.schema.value cs ts scope) ∙ c.in_ok-nodes.ensures.0) c.in_ok-distinct_names.ensures.0
+    (cells_named over (alone cs) ts found are) (cells_sound over (alone cs) ts found are) c.assemble.ensures.answer c.assemble.ensures.short
+
+pub returns-clause-ticks : goal.returns-clause-ticks
+returns-clause-ticks g c =
+    let cs = c.args.frame.now in
+    let ts = map tree c.args.exprs.now in
+    let scope : c.in_ok-schema-2.schema.value ≡ map column_field cs = cc (c.in_ok-schema.ensures, c.in_ok-schema-2.ensures.ok) in
+    let nodes = nodes_over c.in_ok-schema-2.schema.value cs ts c.in_ok-nodes.nodes.items scope c.in_ok-nodes.ensures.1 in
+    let least : RunAllAtLeast (map (planned_over (map column_field cs)) ts) c.args.kernels.now c.evaluate_cells.new.kernels
+    = subst (λ (ps : List Planned). RunAllAtLeast ps c.args.kernels.now c.evaluate_cells.new.kernels) nodes (rw c.deref.ensures.value at c.in_ok-cells.ensures.least) in
+    on_ok c.assemble.result (subst (λ n. c.args.kernels.now + n ≤ c.evaluate_cells.new.kernels) (least_ticks (map column_field cs) ts) least)
