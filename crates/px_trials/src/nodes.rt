@@ -80,7 +80,8 @@ fn inline_number(alloc: Global, text: &str) -> Px<Name> {
 }
 
 fn inline_is_null(alloc: Global, text: &str) -> Px<Name> {
-    let items = Rc::new(alloc, vec![in alloc; number(alloc, text)?]?)?;
+    let cast = number(alloc, text)?;
+    let items = Rc::new(alloc, vec![in alloc; cast]?)?;
     let input = Exprs { items };
     let function = FunctionExpr::IsNull;
     let node = planned(alloc, &Expr::Function { input, function })?;
