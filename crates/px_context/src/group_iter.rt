@@ -25,7 +25,7 @@ fn list_values<'b>(value: ValueRef<'b>) -> &'b Values
 
 /// The items of the list at a row.
 #[tactic(auto, using(crate::proofs::Reading::fit_items_at))]
-fn values_at<'b>(column: &'b Column, row: u32) -> &'b Values
+pub(crate) fn values_at<'b>(column: &'b Column, row: u32) -> &'b Values
     requires within { row < length column.now.slots }
     requires kind { is_list_kind column.now.kind ≡ true }
     requires list { is_list_slot (slot_at column.now.slots row) ≡ true }

@@ -242,8 +242,8 @@ impl PhysicalExpr for PhysExpr {
     }
 }
 
-/// A node's value on a frame as a cell: a unit where the node has one value, and else its rows. It is
-/// refused, and counts, as `evaluate` is and does.
+/// A node's value on a frame as a cell: a unit where the node has one value, and else its rows.
+/// Errors and counters are those of `evaluate`.
 #[tactic(auto, using(crate::proofs::Cells::value_is_cell))]
 #[cycle(evaluate)]
 pub fn evaluate_cell<L: Ledger, M: Ledger>(

@@ -47,8 +47,8 @@ pub trait PhysicalExpr {
         ensures cost { RunAtMost (planned self.now).tree (alone df.now) kernels.old kernels.new };
 
     /// The value without a frame, where there is one: that of a literal which is no range, under at most
-    /// four aliases, casts and functions. What is cast, or a function's input, has one row. None where it
-    /// is refused or a fault.
+    /// four aliases, casts and functions. What is cast, or a function's input, has one row. None for any
+    /// other expression, and where it is refused, has a fault or has 2^32 values.
     fn evaluate_inline(&self, alloc: Global) -> Px<Option<Column>>
         ensures inline { IfOk result (IsInline 4 (planned self.now).tree) };
 

@@ -11,6 +11,8 @@ pub mod Made
 pub mod Beside
 pub mod LookLaws
 pub mod PartLaws
+pub mod PartRows
+pub mod OrderedRows
 pub mod Slices
 pub mod Consecutive
 pub mod InOrder

@@ -1,10 +1,10 @@
 -- The frame of some rows is a frame.
-use Rattle.std.proofs.Common.{◌≡◌, ℕ, Bool, true, ◌&&◌, List, [], ◌∷◌, Some, Result, Ok, Err, length, map, refl, ◌∙◌, ap, nat_lt, if◌then◌else◌}
+use Rattle.std.proofs.Common.{◌≡◌, ℕ, Bool, true, ◌&&◌, cond, List, [], ◌∷◌, Some, Result, Ok, Err, length, map, refl, ◌∙◌, ap, nat_lt, if◌then◌else◌}
 use Rattle.std.proofs.lemmas.List.{length-map}
 use Rattle.px_column.specs.Prelude.{Slot, Series, slot_at}
-use Rattle.px_column.specs.Column.{taken_at, all_within}
+use Rattle.px_column.specs.Column.{taken, taken_at, all_within}
 use Rattle.px_value.specs.declared.error.PxError.{PxError}
-use Rattle.px_value.specs.declared.error.PxError.TheVariants.{ShapeMismatch}
+use Rattle.px_value.specs.declared.error.PxError.TheVariants.{OutOfBounds, ShapeMismatch}
 use Rattle.px_frame.proofs.Each.{has_height_is}
 use Rattle.px_value.proofs.FitLaws.{both}
 use Rattle.px_frame.specs.Frame.{names_of, all_have_height, has_height, is_even, IsFrame, frame_of, first_repeat, unless_repeated, are_below, are_in_all, taken_series, series_at, slots_at, subframe}
@@ -23,6 +23,12 @@ in_all n rows (s ∷ frame) h b =
 taken_slots : (xs : List Slot) (rows : List ℕ) → map (taken_at xs) (map Some rows) ≡ slots_at xs rows
 taken_slots xs [] = refl
 taken_slots xs (r ∷ rs) = ap (λ ys. slot_at xs r ∷ ys) (taken_slots xs rs)
+
+-- rows that are there are taken
+pub taken_there : (s : Series) (rows : List ℕ) → are_below (length s.slots) rows ≡ true → taken s (map Some rows) ≡ Ok (series_at rows s)
+taken_there s rows below =
+    ap (λ (b : Bool). cond b (Ok (taken_series (map Some rows) s)) (Err OutOfBounds)) (within_below (length s.slots) rows ∙ below)
+    ∙ ap (λ ys. Ok (record s { slots = ys })) (taken_slots s.slots rows)
 
 pub taken_frame : (rows : List ℕ) (frame : List Series) → map (taken_series (map Some rows)) frame ≡ subframe frame rows
 taken_frame rows [] = refl

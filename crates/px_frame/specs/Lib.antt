@@ -3,6 +3,7 @@ pub mod Cell
 pub mod CellView
 pub mod Spread
 pub mod Parts
+pub mod Keyed
 pub mod Groups
 pub mod GroupsView
 pub mod Consecutive

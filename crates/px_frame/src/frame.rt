@@ -8,6 +8,7 @@ ghost use Rattle.px_value.specs.declared.error.PxError.TheVariants.{Duplicate};
 ghost use Rattle.px_frame.specs.Frame.{look, height_of, frame_of, first_repeat, all_have_height, has_height, names_of, name_eq, unless_repeated, subframe, are_below, are_in_all, taken_series, kept_frame, kept_series};
 ghost use Rattle.px_frame.specs.Schema.{column_field};
 
+use crate::taking::all_some;
 use crate::schema::{Schema, schema_of};
 use indexmap::IndexSet;
 use px_column::{Column, Name, Px, PxError, is_boolean};
@@ -235,16 +236,6 @@ fn filter_columns(alloc: Global, columns: &[Column], mask: &Column) -> Px<Vec<Co
         kept.push(filter_column(alloc, column, mask)?)?;
     }
     Ok(kept)
-}
-
-fn all_some(alloc: Global, rows: &[u32]) -> Px<Vec<Option<u32>>>
-    ensures { AnswersBy (λ v. v.items) result (Ok (map Some rows.now)) }
-{
-    let mut indices = Vec::with_capacity(alloc, rows.len())?;
-    for row in rows {
-        indices.push(Some(*row))?;
-    }
-    Ok(indices)
 }
 
 /// `length` row numbers from `offset` on.

@@ -10,6 +10,7 @@ mod groups;
 mod reduce;
 mod regroup;
 mod schema;
+mod taking;
 mod unsigned;
 
 pub use aggregate::{
@@ -21,4 +22,5 @@ pub use grouping::group_by;
 pub use groups::{GroupPositions, GroupsIndicator, GroupsType, IdxVec};
 pub use reduce::{list_groups, same_rows_reduce_alike};
 pub use schema::{Field, Schema, SchemaRef};
+pub use taking::take_rows;
 pub use unsigned::convert_to_unsigned_index;

@@ -1,11 +1,10 @@
 -- Contexts that read all their cells from one cell: a unit literal, and the rows of an untouched one at its groups.
-use Rattle.std.specs.Prelude.{Bool, ◌||◌, if◌then◌else◌}
+use Rattle.std.specs.Prelude.{Bool, true, ◌||◌, if◌then◌else◌}
 use Rattle.px_frame.specs.Cell.{is_unit_cell}
 use Rattle.px_frame.specs.Spread.{NamedCell, column_of_cell}
 use Rattle.px_nodes.specs.Named.{column_cell}
 use Rattle.px_context.specs.Built.{is_unit_literal, with_flat, with_lit}
 use Rattle.px_context.specs.Context.{Context}
-use Rattle.std.specs.Prelude.{true}
 
 -- a unit literal, or untouched
 abbrev pub has_lane : Context → Bool

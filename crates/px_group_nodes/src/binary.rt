@@ -12,7 +12,6 @@ ghost use Rattle.px_group_nodes.specs.Operator.{IsOperated, operator_answers};
 use crate::each::{Two, each_two};
 use crate::lane::{has_lane, have_lanes, lane, untouched_of, with_lane};
 use crate::laying::from_cells;
-use crate::shape::{cell_type, have_units};
 use px_column::{DataType, Name, Operator, Px, Steps, operator_type};
 use px_context::AggregationContext;
 use px_frame::Cell;
@@ -61,6 +60,7 @@ fn operate_lanes<'a, L: Ledger>(
     ensures rises { kernels.old ≤ kernels.new }
     ensures ticks { OnOk result (kernels.new ≡ kernels.old + 1) }
 {
+    // Each has the rows that its layout wants.
     let _ = has_lane(&left);
     let _ = has_lane(&right);
     let x = lane(alloc, &left)?;
@@ -87,8 +87,8 @@ fn operated_type(
 ) -> Px<DataType>
     ensures { AnswersBy kind_of result (operator_kind op (cell_kind left.now) (cell_kind right.now)) }
 {
-    let dtype = cell_type(left).try_clone(alloc)?;
-    operator_type(op, dtype, cell_type(right))
+    let dtype = left.cell_type().try_clone(alloc)?;
+    operator_type(op, dtype, right.cell_type())
 }
 
 /// What an operator makes of the cells of two contexts, group by group.
@@ -111,7 +111,7 @@ fn operate_cells<L: Ledger>(
 {
     let dtype = operated_type(alloc, left, right, op)?;
     let name = left.get_values().name().try_clone(alloc)?;
-    let is_unit = have_units(left, right);
+    let is_unit = left.has_units() && right.has_units();
     let cells = each_two(alloc, &Operation { op }, left, right, kernels)?;
     Ok(Answers {
         cells,

@@ -16,6 +16,7 @@ use std::sync::ledger::Ledger;
 pub(crate) trait Two {
     ghost node: { Self → NamedCell → NamedCell → Result NamedCell Refusal };
 
+    /// What the node makes of two cells.
     fn make<L: Ledger>(
         &self,
         alloc: Global,

@@ -5,6 +5,5 @@ mod binary;
 mod each;
 mod lane;
 mod laying;
-mod shape;
 
 pub use binary::binary_groups;

@@ -1,8 +1,6 @@
 pub mod Shapes
 pub mod Beside
 pub mod Defined
-pub mod PartRows
-pub mod OrderedRows
 pub mod InOrder
 pub mod GroupRows
 pub mod FirstRows

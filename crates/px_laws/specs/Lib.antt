@@ -1,5 +1,4 @@
 pub mod Beside
-pub mod Keyed
 pub mod Merge
 pub mod Fitting
 pub mod Faults

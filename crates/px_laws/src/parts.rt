@@ -13,11 +13,11 @@ ghost use Rattle.px_frame.specs.Ordered.{ordered_parts};
 ghost use Rattle.px_frame.specs.Parts.{parts_of};
 ghost use Rattle.px_frame.specs.Schema.{column_field};
 ghost use Rattle.px_frame.specs.Spread.{spread};
-ghost use Rattle.px_laws.specs.Keyed.{HasOneKey, HasWholeKey};
+ghost use Rattle.px_frame.specs.Keyed.{HasOneKey, HasWholeKey};
 
 /// The parts of n rows by some columns hold the rows below n, each once. No part is empty, and the rows
 /// of a part rise.
-#[tactic(auto, using(crate::proofs::PartRows::each_row_once, crate::proofs::PartRows::no_part_is_empty, crate::proofs::PartRows::parts_rise))]
+#[tactic(auto, using(px_frame::proofs::PartRows::each_row_once, px_frame::proofs::PartRows::no_part_is_empty, px_frame::proofs::PartRows::parts_rise))]
 pub fn parts_hold_each_row_once()
     ensures once { (by : List Series) (n : ℕ) → IsPermutation (range_with_len 0 n) (concat (parts_of by n)) }
     ensures not_empty { (by : List Series) (n : ℕ) → All (λ p. 0 < length p) (parts_of by n) }
@@ -39,7 +39,7 @@ pub fn parts_stand_by_their_first_rows()
 
 /// The parts whose rows are put in the order of a column are those parts, each in an order of its own,
 /// and hold each row once.
-#[tactic(auto, using(crate::proofs::OrderedRows::each_ordered_row_once, crate::proofs::OrderedRows::each_part_moved))]
+#[tactic(auto, using(px_frame::proofs::OrderedRows::each_ordered_row_once, px_frame::proofs::OrderedRows::each_part_moved))]
 pub fn ordered_parts_hold_each_row_once()
     ensures same_parts { (by : List Series) (order : Option (Series × SortOptions)) (n : ℕ) → AllZip IsPermutation (parts_of by n) (ordered_parts by order n) }
     ensures once { (by : List Series) (order : Option (Series × SortOptions)) (n : ℕ) → IsPermutation (range_with_len 0 n) (concat (ordered_parts by order n)) }

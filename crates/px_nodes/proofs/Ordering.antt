@@ -24,20 +24,6 @@ use Rattle.px_tree.specs.Node.{sort_by_cell, spread_keys}
 use Rattle.px_nodes.specs.Named.{as_cell, cells_in, kinds_of, sort_by_named, sorted_column_by, under}
 use Rattle.px_nodes.proofs.Answering.{refuses_then}
 
-within_below : (n : ℕ) (found : List ℕ) → all_within n (map Some found) ≡ are_below n found
-within_below n [] = refl
-within_below n (r ∷ rs) = ap (λ b. nat_lt r n && b) (within_below n rs)
-
-taken_slots : (xs : List Slot) (found : List ℕ) → map (taken_at xs) (map Some found) ≡ slots_at xs found
-taken_slots xs [] = refl
-taken_slots xs (r ∷ rs) = ap (λ ys. slot_at xs r ∷ ys) (taken_slots xs rs)
-
--- rows that are there are taken
-pub taken_there : (s : Series) (found : List ℕ) → are_below (length s.slots) found ≡ true → taken s (map Some found) ≡ Ok (with_rows s (slots_at s.slots found))
-taken_there s found h =
-    ap (λ (b : Bool). cond b (Ok (with_rows s (map (taken_at s.slots) (map Some found)))) (Err OutOfBounds)) (within_below (length s.slots) found ∙ h)
-    ∙ ap (λ ys. Ok (with_rows s ys)) (taken_slots s.slots found)
-
 module _ (keys : List (SortOptions × List Slot)) where
   length_with : (js : List ℕ) (i : ℕ) → length (with_row keys js i) ≡ suc (length js)
   length_with [] i = refl

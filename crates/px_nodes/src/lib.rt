@@ -9,7 +9,6 @@ mod binary;
 mod cast;
 mod filter;
 mod gather;
-mod rows;
 mod slice;
 mod sort;
 mod sort_by;

@@ -5,9 +5,8 @@ ghost use Rattle.px_frame.specs.CellView.{named_cell};
 ghost use Rattle.px_nodes.specs.Named.{sort_named, sorted_column};
 
 use crate::answer::into_cell;
-use crate::rows::take_rows;
 use px_column::{Column, Px, SortOptions, Steps};
-use px_frame::Cell;
+use px_frame::{Cell, take_rows};
 use std::alloc::Global;
 use std::sync::ledger::Ledger;
 
@@ -21,6 +20,8 @@ fn sort_column<L: Ledger>(
     ensures answer { Answers result (sorted_column options column.now) }
     ensures ticks { kernels.new ≡ kernels.old + 1 }
 {
+    // A column has fewer than 2^32 rows.
+    let _ = column.rows();
     let rows = column.arg_sort(alloc, options, kernels)?;
     take_rows(alloc, column, &rows)
 }

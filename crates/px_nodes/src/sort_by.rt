@@ -7,9 +7,8 @@ ghost use Rattle.px_frame.specs.Spread.{spread_all};
 ghost use Rattle.px_nodes.specs.Named.{kinds_of, sort_by_named, sorted_column_by};
 
 use crate::answer::into_cell;
-use crate::rows::take_rows;
 use px_column::{Column, InvalidWhy, Px, PxError, SortMultipleOptions, Steps};
-use px_frame::{Cell, spread};
+use px_frame::{Cell, spread, take_rows};
 use std::alloc::Global;
 use std::sync::ledger::Ledger;
 
@@ -53,6 +52,8 @@ fn sort_column_by<L: Ledger>(
     match keys {
         [] => column.try_clone(alloc),
         [first, rest @ ..] => {
+            // A column has fewer than 2^32 rows.
+            let _ = column.rows();
             let rows = Column::arg_sort_multiple(alloc, first, rest, options, kernels)?;
             take_rows(alloc, column, &rows)
         }

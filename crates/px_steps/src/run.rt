@@ -172,7 +172,8 @@ pub fn run<S: Source, K: Sink, L: Ledger, M: Ledger>(
         S.left source.old ≡ Some b →
         IsDocument b doc →
         groupings.new ≡ groupings.old + groupings_of doc.steps }
-    // Kernels run at least once for each node of a flat expression that has one.
+    // Kernels run at least once for each node that has one in a flat expression of a select or filter step
+    // or of a key.
     ensures ticks { (b : List ℕ) (doc : Doc) →
         result ≡ Status.Done →
         S.left source.old ≡ Some b →

@@ -88,7 +88,8 @@ pub fn run_steps<L: Ledger, M: Ledger>(
     ensures state { state.new ≡ state.old }
     // Groups are formed once for each group step.
     ensures grouped { OnOk result (groupings.new ≡ groupings.old + groupings_of (map step_view steps.now)) }
-    // Kernels run at least once for each node of a flat expression that has one.
+    // Kernels run at least once for each node that has one in a flat expression of a select or filter step
+    // or of a key.
     ensures ticks { OnOk result (kernels.old + kernels_of (map step_view steps.now) ≤ kernels.new) }
 {
     match steps {

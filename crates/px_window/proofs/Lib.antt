@@ -1,5 +1,4 @@
 pub mod Once
-pub mod Taking
 pub mod Sorted
 pub mod Joining
 pub mod Laying

@@ -22,7 +22,7 @@ use Rattle.px_frame.specs.Ordered.{in_order, ordered_parts}
 use Rattle.px_frame.specs.Parts.{parts_of}
 use Rattle.px_frame.proofs.Each.{map_next}
 use Rattle.px_frame.proofs.Reducing.{length_slots_at}
-use Rattle.px_laws.proofs.OrderedRows.{each_ordered_row_once, in_order_once, sorted_once}
+use Rattle.px_frame.proofs.OrderedRows.{each_ordered_row_once, in_order_once, sorted_once}
 use Rattle.px_window.specs.Key.{grouped_in, rows_ordered, with_order}
 use Rattle.px_window.specs.Places.{HoldsEachRowOnce}
 

@@ -6,7 +6,6 @@ mod key;
 mod ordering;
 mod places;
 mod placing;
-mod rows;
 mod state;
 
 pub use flags::StateFlags;

@@ -10,9 +10,8 @@ ghost use Rattle.px_window.specs.Key.{grouped_in, ordered_grouped, rows_ordered}
 ghost use Rattle.px_window.specs.Places.{HoldsEachRowOnce};
 
 use crate::key::CacheKey;
-use crate::rows::take_rows;
 use px_column::{Column, ComputeWhy, InvalidWhy, Px, PxError, SortOptions, Steps};
-use px_frame::{GroupPositions, GroupsIndicator, GroupsType, IdxVec, group_by};
+use px_frame::{GroupPositions, GroupsIndicator, GroupsType, IdxVec, group_by, take_rows};
 use std::alloc::Global;
 use std::sync::ledger::Ledger;
 

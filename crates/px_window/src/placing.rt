@@ -4,53 +4,29 @@ ghost use Rattle.std.specs.Prelude.{◌≡◌, ℕ, ◌+◌, ◌<◌, ◌≤◌,
 ghost use Rattle.std.specs.List.{concat, flat_map, zip};
 ghost use Rattle.px_value.specs.declared.error.PxError.TheVariants.{ComputeError};
 ghost use Rattle.px_value.specs.declared.error.ComputeWhy.TheVariants.{TooLong};
-ghost use Rattle.px_column.specs.Prelude.{Answers, AnswersBy, kind_of, slot_at};
+ghost use Rattle.px_column.specs.Prelude.{Answers, AnswersBy, slot_at};
 ghost use Rattle.px_frame.specs.Cell.{count_of, list_of, rows};
 ghost use Rattle.px_frame.specs.Groups.{is_group, rows_of};
 ghost use Rattle.px_frame.specs.GroupsView.{lent_group};
 ghost use Rattle.px_tree.specs.Window.{window_cell};
 ghost use Rattle.px_tree.specs.declared.window.WindowMapping.TheVariants.{Explode};
 ghost use Rattle.px_context.specs.Changes.{KeepsType, LaidOrKept, counts_of, laid_kind};
-ghost use Rattle.px_context.specs.Context.{cell_kind, cells_of, item_kind};
+ghost use Rattle.px_context.specs.Context.{cell_kind, cells_of};
 ghost use Rattle.px_window.specs.Places.{HoldsEachRowOnce, row_places};
 ghost use Rattle.px_window.specs.Placed.{column_with, laid_slots, part_added, rows_exploded, rows_joined, rows_placed};
 
 use crate::places::group_numbers;
-use crate::rows::take_rows;
-use px_column::{Column, ColumnBuilder, ComputeWhy, DataType, Px, PxError};
-use px_context::{AggState, AggregationContext, GroupPiece};
-use px_frame::{GroupPositions, GroupsIndicator};
+use px_column::{Column, ColumnBuilder, ComputeWhy, Px, PxError};
+use px_context::{AggregationContext, GroupPiece};
+use px_frame::{GroupPositions, GroupsIndicator, take_rows};
 use std::alloc::Global;
-
-/// The type of the items of lists.
-fn items_type(dtype: &DataType) -> &DataType
-    ensures { kind_of result.now ≡ item_kind (kind_of dtype.now) }
-{
-    match dtype {
-        DataType::List(inner) => inner,
-        _ => dtype,
-    }
-}
-
-/// The type of the values of cells.
-fn cells_type<'c>(ac: &'c AggregationContext<'_>) -> &'c DataType
-    ensures { kind_of result.now ≡ cell_kind ac.now }
-{
-    let dtype = ac.get_values().dtype();
-    match ac.agg_state() {
-        AggState::AggregatedList(_) => items_type(dtype),
-        AggState::AggregatedScalar(_) => dtype,
-        AggState::NotAggregated(_) => dtype,
-        AggState::Literal(_) => dtype,
-    }
-}
 
 /// No row yet, under the name and of the type of the cells.
 fn cells_builder(alloc: Global, ac: &AggregationContext<'_>, capacity: u32) -> Px<ColumnBuilder>
     ensures { Answers result (Ok (record { name = ac.now.values.name; kind = cell_kind ac.now; slots = [] })) }
 {
     let name = ac.get_values().name().try_clone(alloc)?;
-    let dtype = cells_type(ac).try_clone(alloc)?;
+    let dtype = ac.cell_type().try_clone(alloc)?;
     ColumnBuilder::new(alloc, name, dtype, capacity)
 }
 

@@ -1,4 +1,4 @@
-use Rattle.px_laws.proofs.PartRows.{one_key, all_of_a_key}
+use Rattle.px_frame.proofs.PartRows.{one_key, all_of_a_key}
 use Rattle.px_laws.proofs.parts.parts_are_the_rows_of_a_key.Goals as goal
 
 pub returns-clause-one_key : goal.returns-clause-one_key

@@ -3,11 +3,12 @@ use Rattle.px_frame.specs.Frame.{are_below}
 use Rattle.px_nodes.proofs.Ordering.{below_sorted, length_sorted, sorted_is}
 use Rattle.px_nodes.proofs.sort.sort_column.Goals as goal
 
-pub take_rows-requires-clause-all : goal.take_rows-requires-clause-all
-take_rows-requires-clause-all g c =
+pub take_rows-requires-clause-few : goal.take_rows-requires-clause-few
+take_rows-requires-clause-few g c =
     let s = c.args.column.now in
     let found = c.deref.ensures.value ∙ sorted_is c.args.options s c.in_ok-rows.rows.items c.in_ok-rows.ensures.answer in
-    ap length found ∙ length_sorted ((c.args.options, s.slots) ∷ []) (length s.slots)
+    let all = ap length found ∙ length_sorted ((c.args.options, s.slots) ∷ []) (length s.slots) in
+    omega (arith, all, c.rows.ensures.short)
 
 pub take_rows-requires-clause-below : goal.take_rows-requires-clause-below
 take_rows-requires-clause-below g c =

@@ -25,15 +25,16 @@ returns-in_err-rows-in-len1-up-clause-answer g c =
     let e = c.in_err-rows-in-len1-up.field-0.0 in
     rw (p.1, p.2) (subst (Refuses e) (ap (λ r. r >>= λ found. Ok (sorted_column_by o s keys)) order) (refuses_then e _ (λ found. Ok (sorted_column_by o s keys)) c.in_err-rows-in-len1-up.ensures.answer))
 
-pub take_rows-requires-clause-all : goal.take_rows-requires-clause-all
-take_rows-requires-clause-all g c =
+pub take_rows-requires-clause-few : goal.take_rows-requires-clause-few
+take_rows-requires-clause-few g c =
     let s = c.args.column.now in
     let o = c.args.options.now in
     let keys = c.args.keys.now in
     let order = keys_order o keys c.first-item.result (length s.slots) c.in-len1-up.len_at_least c.first-item.is c.requires.kinds c.requires.lengths in
     let sorted = sort_keys o (map (λ (k : Series). k.slots) keys) in
     let found : c.in_ok-rows-in-len1-up.rows.items ≡ sorted_rows sorted (length s.slots) = cc (order, c.in_ok-rows-in-len1-up.ensures.answer) in
-    ap length (c.deref.ensures.value ∙ found) ∙ length_sorted sorted (length s.slots)
+    let all = ap length (c.deref.ensures.value ∙ found) ∙ length_sorted sorted (length s.slots) in
+    omega (arith, all, c.rows.ensures.short)
 
 pub take_rows-requires-clause-below : goal.take_rows-requires-clause-below
 take_rows-requires-clause-below g c =

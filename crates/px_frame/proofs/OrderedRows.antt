@@ -11,7 +11,7 @@ use Rattle.px_value.specs.declared.sort_options.SortOptions.{SortOptions}
 use Rattle.px_frame.specs.Frame.{slots_at}
 use Rattle.px_frame.specs.Ordered.{in_order, ordered_parts}
 use Rattle.px_frame.specs.Parts.{parts_of}
-use Rattle.px_laws.proofs.PartRows.{each_row_once}
+use Rattle.px_frame.proofs.PartRows.{each_row_once}
 
 module _ (keys : List (SortOptions × List Slot)) where
   -- a row put in its place is one more row

@@ -14,7 +14,7 @@ use Rattle.px_value.specs.Decided.{IsEquivalence-decides, row_decides}
 use Rattle.px_column.specs.Equality.{row_eq}
 use Rattle.px_column.specs.Key.{key_at, keys_of}
 use Rattle.px_frame.specs.Parts.{numbers, with_key, distinct, parts, parts_of}
-use Rattle.px_laws.specs.Keyed.{HasOneKey, HasWholeKey}
+use Rattle.px_frame.specs.Keyed.{HasOneKey, HasWholeKey}
 
 module _ {K : Type 0} where
   -- how many pass the test
