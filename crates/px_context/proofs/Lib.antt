@@ -6,3 +6,5 @@ pub mod Laying
 pub mod Apart
 pub mod Counting
 pub mod Sameness
+pub mod Renaming
+pub mod Picking

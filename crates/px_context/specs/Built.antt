@@ -1,5 +1,5 @@
 -- The contexts that the constructors make.
-use Rattle.std.specs.Prelude.{Bool, true, false, not}
+use Rattle.std.specs.Prelude.{ℕ, Bool, true, false, not, List}
 use Rattle.px_column.specs.Series.{Series}
 use Rattle.px_frame.specs.Groups.{Groups}
 use Rattle.px_context.specs.Context.{Context}
@@ -68,3 +68,7 @@ with_other_groups c g = record c { groups = g; untouched = false }
 -- a context with another update pending
 abbrev pub with_update : Context → UpdateGroups → Context
 with_update c u = record c { update = u }
+
+-- a context under another name
+abbrev pub renamed : Context → List ℕ → Context
+renamed c n = record c { values = record c.values { name = n } }

@@ -1,10 +1,12 @@
 //! How the values of a context are kept.
-ghost use Rattle.std.specs.Prelude.{◌≡◌};
+ghost use Rattle.std.specs.Prelude.{◌≡◌, Bool, IfOk, Ok};
+ghost use Rattle.px_column.specs.Prelude.{AnswersBy};
 ghost use Rattle.px_context.specs.Changes.{is_pending};
-ghost use Rattle.px_context.specs.LentView.{values_of};
+ghost use Rattle.px_context.specs.LentView.{layout_of, values_of};
 
 use crate::lent::ColRef;
-use px_column::Column;
+use px_column::{Column, Name, Px};
+use std::alloc::Global;
 
 /// How the values of a context are kept (polars `AggState`).
 #[derive(Drop)]
@@ -45,7 +47,7 @@ pub enum Layout {
     Unit,
 }
 
-impl AggState<'_> {
+impl<'a> AggState<'a> {
     /// The column of values.
     pub(crate) fn column(&self) -> &Column
         ensures { result.now ≡ values_of self.now }
@@ -55,6 +57,25 @@ impl AggState<'_> {
             AggState::AggregatedScalar(column) => column.get(),
             AggState::NotAggregated(column) => column.get(),
             AggState::Literal(column) => column.get(),
+        }
+    }
+
+    /// The same with the column under another name.
+    pub(crate) fn with_name(self, alloc: Global, name: Name) -> Px<AggState<'a>>
+        ensures values { AnswersBy values_of result (Ok (record (values_of self.entry) { name = name })) }
+        ensures layout { IfOk result (λ s. (unit : Bool) → layout_of unit s ≡ layout_of unit self.entry) }
+    {
+        match self {
+            AggState::AggregatedList(column) => {
+                Ok(AggState::AggregatedList(column.with_name(alloc, name)?))
+            }
+            AggState::AggregatedScalar(column) => {
+                Ok(AggState::AggregatedScalar(column.with_name(alloc, name)?))
+            }
+            AggState::NotAggregated(column) => {
+                Ok(AggState::NotAggregated(column.with_name(alloc, name)?))
+            }
+            AggState::Literal(column) => Ok(AggState::Literal(column.with_name(alloc, name)?)),
         }
     }
 }

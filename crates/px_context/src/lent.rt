@@ -1,9 +1,9 @@
 //! Columns and groups that are lent, or owned.
 ghost use Rattle.std.specs.Prelude.{◌≡◌, Ok};
-ghost use Rattle.px_column.specs.Prelude.{Answers};
+ghost use Rattle.px_column.specs.Prelude.{Answers, AnswersBy};
 ghost use Rattle.px_context.specs.LentView.{series_of, groups_in};
 
-use px_column::{Column, Px};
+use px_column::{Column, Name, Px};
 use px_frame::GroupPositions;
 use std::alloc::Global;
 
@@ -25,7 +25,7 @@ pub enum GroupsRef<'a> {
     Owned(GroupPositions),
 }
 
-impl ColRef<'_> {
+impl<'a> ColRef<'a> {
     /// The column.
     pub fn get(&self) -> &Column
         ensures { result.now ≡ series_of self.now }
@@ -44,6 +44,14 @@ impl ColRef<'_> {
             ColRef::Borrowed(column) => column.try_clone(alloc),
             ColRef::Owned(column) => Ok(column),
         }
+    }
+
+    /// The column under another name.
+    pub(crate) fn with_name(self, alloc: Global, name: Name) -> Px<ColRef<'a>>
+        ensures { AnswersBy series_of result (Ok (record (series_of self.entry) { name = name })) }
+    {
+        let column = self.into_owned(alloc)?;
+        Ok(ColRef::Owned(column.with_name(name)))
     }
 }
 

@@ -1,11 +1,14 @@
-//! Contexts whose column is replaced.
-ghost use Rattle.std.specs.Prelude.{◌≡◌, IsTrue, length, if◌then◌else◌};
-ghost use Rattle.px_context.specs.Built.{with_column, with_flat, with_lit};
+//! Contexts whose column is replaced or renamed.
+ghost use Rattle.std.specs.Prelude.{◌≡◌, IfOk, IsTrue, Ok, length, if◌then◌else◌};
+ghost use Rattle.px_column.specs.Prelude.{Answers};
+ghost use Rattle.px_context.specs.Built.{renamed, with_column, with_flat, with_lit};
+ghost use Rattle.px_context.specs.Context.{cells_of};
 
 use crate::agg_state::{AggState, UpdateGroups};
 use crate::context::AggregationContext;
 use crate::lent::ColRef;
-use px_column::Column;
+use px_column::{Column, Name, Px};
+use std::alloc::Global;
 
 impl<'a> AggregationContext<'a> {
     /// Keeps a column with a value for each row of the groups' height.
@@ -41,5 +44,27 @@ impl<'a> AggregationContext<'a> {
         self.is_unit = unit;
         self.update = UpdateGroups::No;
         self.is_untouched = false;
+    }
+    /// The context with its column under another name; its cells stay as they were (polars `rename` of
+    /// the state's column).
+    pub fn with_name(self, alloc: Global, name: Name) -> Px<AggregationContext<'a>>
+        ensures answer { Answers result (Ok (renamed self.entry name)) }
+        ensures cells { IfOk result (λ c. cells_of c ≡ cells_of self.entry) }
+    {
+        let AggregationContext {
+            state,
+            groups,
+            update,
+            is_unit,
+            is_untouched,
+        } = self;
+        let state = state.with_name(alloc, name)?;
+        Ok(AggregationContext {
+            state,
+            groups,
+            update,
+            is_unit,
+            is_untouched,
+        })
     }
 }
