@@ -29,7 +29,8 @@ use Rattle.px_tree.specs.declared.function.FunctionExpr.{FunctionExpr}
 use Rattle.px_tree.specs.declared.function.FunctionExpr.TheVariants.{IsNull, IsNotNull, Not, IsBetween, IsIn, Explode}
 use Rattle.px_expr.specs.Parts.{PlannedApply, apply_plan, plan_trees}
 use Rattle.px_expr.specs.Planned.{Planned}
-use Rattle.px_expr.specs.Value.{AreCellsOf, IsCause, IsCauseOfAny, IsOneOf, IsValue, causes_on}
+use Rattle.px_expr.specs.Value.{AreCellsOf, IsCause, IsCauseOfAny, IsCellOf, IsOneOf, IsValue, causes_on}
+use Rattle.px_expr.proofs.Cells.{cell_is_value}
 use Rattle.px_expr.proofs.InputLists.{AreAsMany, AreInputs, among_right, are_unit_cells, cause_of_inputs, inputs_of, is_unit_first_cell}
 
 -- an invalid operation, and rows that do not fit, are told as causes
@@ -222,15 +223,6 @@ function_unit g k (a ∷ b ∷ []) d h = two_unit g k a b d (are_unit_cells (a �
 function_unit g k (a ∷ b ∷ c ∷ []) d h = three_unit g k a b c d h
 function_unit g k (a ∷ b ∷ c ∷ l ∷ cs) d h = more_unit g k a b c l cs d (are_unit_cells (a ∷ b ∷ c ∷ l ∷ cs)) h
 
--- a cell is its rows, and a unit has one
-pub cell_back : (c : Cell) → cell_of (is_unit_cell c) (list_of c) ≡ c
-cell_back (unit s) = refl
-cell_back (rows xs) = refl
-
-pub one_in_unit : (c : Cell) → is_unit_cell c ≡ true → length (list_of c) ≡ 1
-one_in_unit (unit s) h = refl
-one_in_unit (rows xs) h = absurd (cc h)
-
 -- what a named answer was made of
 record IsMadeOf (kind : Result Kind PxError) (name : List ℕ) (made : Result Cell PxError) (c : NamedCell) : Type 0 where
   pub kind_is : kind ≡ Ok c.kind
@@ -290,13 +282,13 @@ module _ (a : PlannedApply) (f : Frame) (cs : List NamedCell) (are : AreCellsOf 
       let count : count_on (apply_plan a).tree f ≡ count_of d = rw (outcome, h) refl in
       omega (arith, count, l)
 
-  pub apply_value : (c : NamedCell) → function_named (called a.call) cs ≡ Ok c → IsValue (apply_plan a) f (column_of_cell c)
-  apply_value c h = record {
+  pub apply_cell_of : (c : NamedCell) → function_named (called a.call) cs ≡ Ok c → IsCellOf (apply_plan a) f c
+  apply_cell_of c h = record {
     sound = rw (inputs.refused, inputs.found, inputs.fits, inputs.faults, inputs.kinds, inputs.cells, made.kind_is, made.cell_is) (own_none (is_one_input_missing (called a.call) (plan_trees a.inputs)) (by (number_of_inputs (called a.call) (plan_trees a.inputs) cs inputs.as_many)));
     name = sym made.name_is ∙ inputs.name;
     kind = rw (inputs.kinds, made.kind_is) refl;
-    value = ap valued (outcome ∙ ap Some made.cell_is) ∙ (ap Some (sym (ap (λ u. cell_of u (list_of c.cell)) (sym is_unit) ∙ cell_back c.cell)));
-    unit = λ u. one_in_unit c.cell (is_unit ∙ u);
+    value = ap valued (outcome ∙ ap Some made.cell_is);
+    shape = is_unit;
   }
     where
       made : IsMadeOf (function_kind (called a.call) (kinds_of cs)) (first_name cs) (function_cell (called a.call) (first_kind (kinds_of cs)) (cells_in cs)) c
@@ -312,6 +304,9 @@ module _ (a : PlannedApply) (f : Frame) (cs : List NamedCell) (are : AreCellsOf 
 
       is_unit : is_unit_cell c.cell ≡ is_unit_call (called a.call) (is_unit_first (plan_trees a.inputs)) (are_units (plan_trees a.inputs))
       is_unit = rw (← inputs.first, ← inputs.units) (function_unit (called a.call) (first_kind (kinds_of cs)) (cells_in cs) c.cell made.cell_is)
+
+  pub apply_value : (c : NamedCell) → function_named (called a.call) cs ≡ Ok c → IsValue (apply_plan a) f (column_of_cell c)
+  apply_value c h = cell_is_value (apply_plan a) f c (apply_cell_of c h)
 
   -- what is refused is among the causes, or there are too many values
   pub apply_lacks : (e : PxError) → function_named (called a.call) cs ≡ Err e → IsOneOf e (causes_on (apply_plan a) f) ⊎ (2 ^ 32 ≤ size_on (apply_plan a).tree (f ∷ []))

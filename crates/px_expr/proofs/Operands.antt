@@ -101,7 +101,7 @@ cast_plain from to o (unit s) = plain_then (cast_slot from to o s) _ (plain_cast
 cast_plain from to o (rows xs) = plain_then (cast_slots from to o xs) _ (plain_cast_slots from to o xs) (λ ys. tt)
 
 -- operators
-binary_node : (b : PlannedBinary) (f : Frame) → IsNode (binary_plan b) (b.left ∷ b.right ∷ []) f
+pub binary_node : (b : PlannedBinary) (f : Frame) → IsNode (binary_plan b) (b.left ∷ b.right ∷ []) f
 binary_node b f = record {
   refusals = ap (λ rs. or_first rs (own_refusals (binary_plan b).tree (scope_of f) Default)) (two_apart (refusals_of b.left.tree (scope_of f) Default) (refusals_of b.right.tree (scope_of f) Default));
   columns = two_apart b.left.columns b.right.columns;
@@ -124,9 +124,12 @@ binary_decides b f x y h k = record {
   plain_cell = zip_plain (operated x.kind b.op) x.cell y.cell;
 }
 
+pub binary_cell_of : (b : PlannedBinary) (f : Frame) (x y c : NamedCell) → IsCellOf b.left f x → IsCellOf b.right f y → binary_named b.op x y ≡ Ok c → IsCellOf (binary_plan b) f c
+binary_cell_of b f x y c h k m =
+    made_cell (binary_plan b) (b.left ∷ b.right ∷ []) f x.name (operator_kind b.op x.kind y.kind) (binary_cell x.kind b.op x.cell y.cell) c (binary_decides b f x y h k) m
+
 pub binary_value : (b : PlannedBinary) (f : Frame) (x y c : NamedCell) → IsCellOf b.left f x → IsCellOf b.right f y → binary_named b.op x y ≡ Ok c → IsValue (binary_plan b) f (column_of_cell c)
-binary_value b f x y c h k m =
-    cell_is_value (binary_plan b) f c (made_cell (binary_plan b) (b.left ∷ b.right ∷ []) f x.name (operator_kind b.op x.kind y.kind) (binary_cell x.kind b.op x.cell y.cell) c (binary_decides b f x y h k) m)
+binary_value b f x y c h k m = cell_is_value (binary_plan b) f c (binary_cell_of b f x y c h k m)
 
 pub binary_cause : (e : PxError) (b : PlannedBinary) (f : Frame) (x y : NamedCell) → IsCellOf b.left f x → IsCellOf b.right f y → Refuses e (binary_named b.op x y) → IsCause e (binary_plan b) f
 binary_cause e b f x y h k =
@@ -139,7 +142,7 @@ pub right_cause : (e : PxError) (b : PlannedBinary) (f : Frame) → IsCause e b.
 right_cause e b f = cause_above e (binary_plan b) (b.left ∷ b.right ∷ []) b.right f (binary_node b f) (inr (inl refl))
 
 -- ternaries
-ternary_node : (t : PlannedTernary) (f : Frame) → IsNode (ternary_plan t) (t.predicate ∷ t.truthy ∷ t.falsy ∷ []) f
+pub ternary_node : (t : PlannedTernary) (f : Frame) → IsNode (ternary_plan t) (t.predicate ∷ t.truthy ∷ t.falsy ∷ []) f
 ternary_node t f = record {
   refusals = ap (λ rs. or_first rs (own_refusals (ternary_plan t).tree (scope_of f) Default)) (three_apart (refusals_of t.predicate.tree (scope_of f) Default) (refusals_of t.truthy.tree (scope_of f) Default) (refusals_of t.falsy.tree (scope_of f) Default));
   columns = ap (λ cs. t.predicate.columns ++ cs) (two_apart t.truthy.columns t.falsy.columns);
@@ -170,11 +173,13 @@ ternary_decides t f p a b g h k = record {
 ternary_then : (p a b : NamedCell) → ternary_named p a b ≡ (cond (is_boolean_kind p.kind) (kind_where (kind_eq a.kind b.kind) a.kind) (Err SchemaMismatch) >>= λ k. under a.name k (ternary_cell p.cell a.cell b.cell))
 ternary_then p a b = guarded_then (is_boolean_kind p.kind) SchemaMismatch (kind_where (kind_eq a.kind b.kind) a.kind) (λ k. under a.name k (ternary_cell p.cell a.cell b.cell))
 
+pub ternary_cell_of : (t : PlannedTernary) (f : Frame) (p a b c : NamedCell) → IsCellOf t.predicate f p → IsCellOf t.truthy f a → IsCellOf t.falsy f b → ternary_named p a b ≡ Ok c → IsCellOf (ternary_plan t) f c
+ternary_cell_of t f p a b c g h k m =
+    made_cell (ternary_plan t) (t.predicate ∷ t.truthy ∷ t.falsy ∷ []) f a.name (cond (is_boolean_kind p.kind) (kind_where (kind_eq a.kind b.kind) a.kind) (Err SchemaMismatch)) (ternary_cell p.cell a.cell b.cell) c
+    (ternary_decides t f p a b g h k) (sym (ternary_then p a b) ∙ m)
+
 pub ternary_value : (t : PlannedTernary) (f : Frame) (p a b c : NamedCell) → IsCellOf t.predicate f p → IsCellOf t.truthy f a → IsCellOf t.falsy f b → ternary_named p a b ≡ Ok c → IsValue (ternary_plan t) f (column_of_cell c)
-ternary_value t f p a b c g h k m =
-    cell_is_value (ternary_plan t) f c
-    (made_cell (ternary_plan t) (t.predicate ∷ t.truthy ∷ t.falsy ∷ []) f a.name (cond (is_boolean_kind p.kind) (kind_where (kind_eq a.kind b.kind) a.kind) (Err SchemaMismatch)) (ternary_cell p.cell a.cell b.cell) c
-    (ternary_decides t f p a b g h k) (sym (ternary_then p a b) ∙ m))
+ternary_value t f p a b c g h k m = cell_is_value (ternary_plan t) f c (ternary_cell_of t f p a b c g h k m)
 
 pub ternary_cause : (e : PxError) (t : PlannedTernary) (f : Frame) (p a b : NamedCell) → IsCellOf t.predicate f p → IsCellOf t.truthy f a → IsCellOf t.falsy f b → Refuses e (ternary_named p a b) → IsCause e (ternary_plan t) f
 ternary_cause e t f p a b g h k =
@@ -192,7 +197,7 @@ pub falsy_cause : (e : PxError) (t : PlannedTernary) (f : Frame) → IsCause e t
 falsy_cause e t f = cause_above e (ternary_plan t) (t.predicate ∷ t.truthy ∷ t.falsy ∷ []) t.falsy f (ternary_node t f) (inr (inr (inl refl)))
 
 -- casts
-cast_node : (c : PlannedCast) (f : Frame) → IsNode (cast_plan c) (c.input ∷ []) f
+pub cast_node : (c : PlannedCast) (f : Frame) → IsNode (cast_plan c) (c.input ∷ []) f
 cast_node c f = record {
   refusals = ap (λ rs. or_first rs (own_refusals (cast_plan c).tree (scope_of f) Default)) (one_apart (refusals_of c.input.tree (scope_of f) Default));
   columns = one_apart c.input.columns;
@@ -218,9 +223,12 @@ cast_decides c f x h = record {
   plain_cell = cast_plain x.kind c.dtype c.options x.cell;
 }
 
+pub cast_cell_of : (c : PlannedCast) (f : Frame) (x d : NamedCell) → IsCellOf c.input f x → cast_named c.dtype c.options x ≡ Ok d → IsCellOf (cast_plan c) f d
+cast_cell_of c f x d h m =
+    made_cell (cast_plan c) (c.input ∷ []) f x.name (cast_kind x.kind c.dtype) (cast_cell x.kind c.dtype c.options x.cell) d (cast_decides c f x h) m
+
 pub cast_value : (c : PlannedCast) (f : Frame) (x d : NamedCell) → IsCellOf c.input f x → cast_named c.dtype c.options x ≡ Ok d → IsValue (cast_plan c) f (column_of_cell d)
-cast_value c f x d h m =
-    cell_is_value (cast_plan c) f d (made_cell (cast_plan c) (c.input ∷ []) f x.name (cast_kind x.kind c.dtype) (cast_cell x.kind c.dtype c.options x.cell) d (cast_decides c f x h) m)
+cast_value c f x d h m = cell_is_value (cast_plan c) f d (cast_cell_of c f x d h m)
 
 pub cast_cause : (e : PxError) (c : PlannedCast) (f : Frame) (x : NamedCell) → IsCellOf c.input f x → Refuses e (cast_named c.dtype c.options x) → IsCause e (cast_plan c) f
 cast_cause e c f x h =

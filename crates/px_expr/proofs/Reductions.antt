@@ -46,7 +46,7 @@ no_reduction_fault m e f = by (kind_in e (scope_of f)) (made (outcome_on e f))
     by (Some k) None = refl
     by (Some k) (Some c) = refl
 
-reduction_node : (r : PlannedReduction) (f : Frame) → IsNode (reduction_plan r) (r.input ∷ []) f
+pub reduction_node : (r : PlannedReduction) (f : Frame) → IsNode (reduction_plan r) (r.input ∷ []) f
 reduction_node r f = record {
   refusals = ap (λ rs. or_first rs (own_refusals (reduction_plan r).tree (scope_of f) Default)) (one_apart (refusals_of r.input.tree (scope_of f) Default));
   columns = one_apart r.input.columns;
@@ -68,9 +68,12 @@ reduction_decides r f x h = record {
   plain_cell = tt;
 }
 
+pub reduction_cell_of : (r : PlannedReduction) (f : Frame) (x c : NamedCell) → IsCellOf r.input f x → aggregation_named r.method x ≡ Ok c → IsCellOf (reduction_plan r) f c
+reduction_cell_of r f x c h m =
+    made_cell (reduction_plan r) (r.input ∷ []) f x.name (reduced_kind r.method x.kind) (Ok (reduction_cell r.method x.kind x.cell)) c (reduction_decides r f x h) m
+
 pub reduction_value : (r : PlannedReduction) (f : Frame) (x c : NamedCell) → IsCellOf r.input f x → aggregation_named r.method x ≡ Ok c → IsValue (reduction_plan r) f (column_of_cell c)
-reduction_value r f x c h m =
-    cell_is_value (reduction_plan r) f c (made_cell (reduction_plan r) (r.input ∷ []) f x.name (reduced_kind r.method x.kind) (Ok (reduction_cell r.method x.kind x.cell)) c (reduction_decides r f x h) m)
+reduction_value r f x c h m = cell_is_value (reduction_plan r) f c (reduction_cell_of r f x c h m)
 
 pub reduction_cause : (e : PxError) (r : PlannedReduction) (f : Frame) (x : NamedCell) → IsCellOf r.input f x → Refuses e (aggregation_named r.method x) → IsCause e (reduction_plan r) f
 reduction_cause e r f x h =

@@ -52,7 +52,7 @@ filter_shape c mask = ok_then (spread (length (list_of c)) mask) (λ truths. Ok 
 filter_plain : (c mask : Cell) → Plain (filter_cell c mask)
 filter_plain c mask = plain_then (spread (length (list_of c)) mask) (λ truths. Ok (rows (kept_rows truths (list_of c)))) (plain_spread (length (list_of c)) mask) (λ truths. tt)
 
-filter_node : (p : PlannedFilter) (f : Frame) → IsNode (filter_plan p) (p.input ∷ p.by ∷ []) f
+pub filter_node : (p : PlannedFilter) (f : Frame) → IsNode (filter_plan p) (p.input ∷ p.by ∷ []) f
 filter_node p f = record {
   refusals = ap (λ rs. or_first rs (own_refusals (filter_plan p).tree (scope_of f) Default)) (two_apart (refusals_of p.input.tree (scope_of f) Default) (refusals_of p.by.tree (scope_of f) Default));
   columns = two_apart p.input.columns p.by.columns;
@@ -78,10 +78,12 @@ filter_decides p f x y h k = record {
 filter_then : (x y : NamedCell) → filter_named x y ≡ (cond (is_boolean_kind y.kind) (Ok x.kind) (Err SchemaMismatch) >>= λ k. under x.name k (filter_cell x.cell y.cell))
 filter_then x y = guarded_then (is_boolean_kind y.kind) SchemaMismatch (Ok x.kind) (λ k. under x.name k (filter_cell x.cell y.cell))
 
+pub filter_cell_of : (p : PlannedFilter) (f : Frame) (x y c : NamedCell) → IsCellOf p.input f x → IsCellOf p.by f y → filter_named x y ≡ Ok c → IsCellOf (filter_plan p) f c
+filter_cell_of p f x y c h k m =
+    made_cell (filter_plan p) (p.input ∷ p.by ∷ []) f x.name (cond (is_boolean_kind y.kind) (Ok x.kind) (Err SchemaMismatch)) (filter_cell x.cell y.cell) c (filter_decides p f x y h k) (sym (filter_then x y) ∙ m)
+
 pub filter_value : (p : PlannedFilter) (f : Frame) (x y c : NamedCell) → IsCellOf p.input f x → IsCellOf p.by f y → filter_named x y ≡ Ok c → IsValue (filter_plan p) f (column_of_cell c)
-filter_value p f x y c h k m =
-    cell_is_value (filter_plan p) f c
-    (made_cell (filter_plan p) (p.input ∷ p.by ∷ []) f x.name (cond (is_boolean_kind y.kind) (Ok x.kind) (Err SchemaMismatch)) (filter_cell x.cell y.cell) c (filter_decides p f x y h k) (sym (filter_then x y) ∙ m))
+filter_value p f x y c h k m = cell_is_value (filter_plan p) f c (filter_cell_of p f x y c h k m)
 
 pub filter_cause : (e : PxError) (p : PlannedFilter) (f : Frame) (x y : NamedCell) → IsCellOf p.input f x → IsCellOf p.by f y → Refuses e (filter_named x y) → IsCause e (filter_plan p) f
 filter_cause e p f x y h k =
@@ -126,7 +128,7 @@ slice_plain c offset length =
     (λ l. plain_then (offset_of o) (λ start. length_of l >>= made start) (plain_offset o)
     (λ start. plain_then (length_of l) (made start) (plain_length l) (λ limit. tt))))
 
-slice_node : (s : PlannedSlice) (f : Frame) → IsNode (slice_plan s) (s.input ∷ s.offset ∷ s.length ∷ []) f
+pub slice_node : (s : PlannedSlice) (f : Frame) → IsNode (slice_plan s) (s.input ∷ s.offset ∷ s.length ∷ []) f
 slice_node s f = record {
   refusals = ap (λ rs. or_first rs (own_refusals (slice_plan s).tree (scope_of f) Default)) (three_apart (refusals_of s.input.tree (scope_of f) Default) (refusals_of s.offset.tree (scope_of f) Default) (refusals_of s.length.tree (scope_of f) Default));
   columns = ap (λ cs. s.input.columns ++ cs) (two_apart s.offset.columns s.length.columns);
@@ -157,11 +159,13 @@ slice_decides s f x o l g h k = record {
 slice_then : (x o l : NamedCell) → slice_named x o l ≡ (cond (is_integer_or_null o.kind && is_integer_or_null l.kind) (Ok x.kind) (Err (InvalidOperation Types)) >>= λ k. under x.name k (slice_cell x.cell o.cell l.cell))
 slice_then x o l = guarded_then (is_integer_or_null o.kind && is_integer_or_null l.kind) (InvalidOperation Types) (Ok x.kind) (λ k. under x.name k (slice_cell x.cell o.cell l.cell))
 
+pub slice_cell_of : (s : PlannedSlice) (f : Frame) (x o l c : NamedCell) → IsCellOf s.input f x → IsCellOf s.offset f o → IsCellOf s.length f l → slice_named x o l ≡ Ok c → IsCellOf (slice_plan s) f c
+slice_cell_of s f x o l c g h k m =
+    made_cell (slice_plan s) (s.input ∷ s.offset ∷ s.length ∷ []) f x.name (cond (is_integer_or_null o.kind && is_integer_or_null l.kind) (Ok x.kind) (Err (InvalidOperation Types))) (slice_cell x.cell o.cell l.cell) c
+    (slice_decides s f x o l g h k) (sym (slice_then x o l) ∙ m)
+
 pub slice_value : (s : PlannedSlice) (f : Frame) (x o l c : NamedCell) → IsCellOf s.input f x → IsCellOf s.offset f o → IsCellOf s.length f l → slice_named x o l ≡ Ok c → IsValue (slice_plan s) f (column_of_cell c)
-slice_value s f x o l c g h k m =
-    cell_is_value (slice_plan s) f c
-    (made_cell (slice_plan s) (s.input ∷ s.offset ∷ s.length ∷ []) f x.name (cond (is_integer_or_null o.kind && is_integer_or_null l.kind) (Ok x.kind) (Err (InvalidOperation Types))) (slice_cell x.cell o.cell l.cell) c
-    (slice_decides s f x o l g h k) (sym (slice_then x o l) ∙ m))
+slice_value s f x o l c g h k m = cell_is_value (slice_plan s) f c (slice_cell_of s f x o l c g h k m)
 
 pub slice_cause : (e : PxError) (s : PlannedSlice) (f : Frame) (x o l : NamedCell) → IsCellOf s.input f x → IsCellOf s.offset f o → IsCellOf s.length f l → Refuses e (slice_named x o l) → IsCause e (slice_plan s) f
 slice_cause e s f x o l g h k =
@@ -195,7 +199,7 @@ gather_plain one lit c idx = by (lit && is_null_unit idx) (list_all (is_index (l
     by false true = tt
     by false false = refl
 
-gather_node : (g : PlannedGather) (f : Frame) → IsNode (gather_plan g) (g.phys_expr ∷ g.idx ∷ []) f
+pub gather_node : (g : PlannedGather) (f : Frame) → IsNode (gather_plan g) (g.phys_expr ∷ g.idx ∷ []) f
 gather_node g f = record {
   refusals = ap (λ rs. or_first rs (own_refusals (gather_plan g).tree (scope_of f) Default)) (two_apart (refusals_of g.phys_expr.tree (scope_of f) Default) (refusals_of g.idx.tree (scope_of f) Default));
   columns = two_apart g.phys_expr.columns g.idx.columns;
@@ -245,11 +249,13 @@ gather_then : (one lit : Bool) (x i : NamedCell)
     → gather_named one lit x i ≡ (cond (is_integer_kind i.kind) (cond (one && not (is_unit_cell i.cell)) (Err (ComputeError SingleIndex)) (Ok x.kind)) (Err (InvalidOperation Types)) >>= λ k. under x.name k (gather_cell one lit x.cell i.cell))
 gather_then one lit x i = index_then (is_integer_kind i.kind) (one && not (is_unit_cell i.cell)) x.kind (λ k. under x.name k (gather_cell one lit x.cell i.cell))
 
+pub gather_cell_of : (g : PlannedGather) (f : Frame) (x i c : NamedCell) → IsCellOf g.phys_expr f x → IsCellOf g.idx f i → gather_named g.returns_scalar (is_literal_tree g.idx.tree) x i ≡ Ok c → IsCellOf (gather_plan g) f c
+gather_cell_of g f x i c h k m =
+    made_cell (gather_plan g) (g.phys_expr ∷ g.idx ∷ []) f x.name (cond (is_integer_kind i.kind) (cond (g.returns_scalar && not (is_unit_cell i.cell)) (Err (ComputeError SingleIndex)) (Ok x.kind)) (Err (InvalidOperation Types)))
+    (gather_cell g.returns_scalar (is_literal_tree g.idx.tree) x.cell i.cell) c (gather_decides g f x i h k) (sym (gather_then g.returns_scalar (is_literal_tree g.idx.tree) x i) ∙ m)
+
 pub gather_value : (g : PlannedGather) (f : Frame) (x i c : NamedCell) → IsCellOf g.phys_expr f x → IsCellOf g.idx f i → gather_named g.returns_scalar (is_literal_tree g.idx.tree) x i ≡ Ok c → IsValue (gather_plan g) f (column_of_cell c)
-gather_value g f x i c h k m =
-    cell_is_value (gather_plan g) f c
-    (made_cell (gather_plan g) (g.phys_expr ∷ g.idx ∷ []) f x.name (cond (is_integer_kind i.kind) (cond (g.returns_scalar && not (is_unit_cell i.cell)) (Err (ComputeError SingleIndex)) (Ok x.kind)) (Err (InvalidOperation Types)))
-    (gather_cell g.returns_scalar (is_literal_tree g.idx.tree) x.cell i.cell) c (gather_decides g f x i h k) (sym (gather_then g.returns_scalar (is_literal_tree g.idx.tree) x i) ∙ m))
+gather_value g f x i c h k m = cell_is_value (gather_plan g) f c (gather_cell_of g f x i c h k m)
 
 pub gather_cause : (e : PxError) (g : PlannedGather) (f : Frame) (x i : NamedCell) → IsCellOf g.phys_expr f x → IsCellOf g.idx f i → Refuses e (gather_named g.returns_scalar (is_literal_tree g.idx.tree) x i) → IsCause e (gather_plan g) f
 gather_cause e g f x i h k =
@@ -271,7 +277,7 @@ no_sort_fault e options f = by (made (outcome_on e f))
     by None = refl
     by (Some c) = refl
 
-sort_node : (s : PlannedSort) (f : Frame) → IsNode (sort_plan s) (s.physical_expr ∷ []) f
+pub sort_node : (s : PlannedSort) (f : Frame) → IsNode (sort_plan s) (s.physical_expr ∷ []) f
 sort_node s f = record {
   refusals = ap (λ rs. or_first rs (own_refusals (sort_plan s).tree (scope_of f) Default)) (one_apart (refusals_of s.physical_expr.tree (scope_of f) Default));
   columns = one_apart s.physical_expr.columns;
@@ -308,10 +314,12 @@ unless_then false e k next = refl
 sort_then : (options : SortOptions) (x : NamedCell) → sort_named options x ≡ (cond (is_list_kind x.kind) (Err (InvalidOperation ListKey)) (Ok x.kind) >>= λ k. under x.name k (sort_cell options x.cell))
 sort_then options x = unless_then (is_list_kind x.kind) (InvalidOperation ListKey) x.kind (λ k. under x.name k (sort_cell options x.cell))
 
+pub sort_cell_of : (s : PlannedSort) (f : Frame) (x c : NamedCell) → IsCellOf s.physical_expr f x → sort_named s.options x ≡ Ok c → IsCellOf (sort_plan s) f c
+sort_cell_of s f x c h m =
+    made_cell (sort_plan s) (s.physical_expr ∷ []) f x.name (cond (is_list_kind x.kind) (Err (InvalidOperation ListKey)) (Ok x.kind)) (sort_cell s.options x.cell) c (sort_decides s f x h) (sym (sort_then s.options x) ∙ m)
+
 pub sort_value : (s : PlannedSort) (f : Frame) (x c : NamedCell) → IsCellOf s.physical_expr f x → sort_named s.options x ≡ Ok c → IsValue (sort_plan s) f (column_of_cell c)
-sort_value s f x c h m =
-    cell_is_value (sort_plan s) f c
-    (made_cell (sort_plan s) (s.physical_expr ∷ []) f x.name (cond (is_list_kind x.kind) (Err (InvalidOperation ListKey)) (Ok x.kind)) (sort_cell s.options x.cell) c (sort_decides s f x h) (sym (sort_then s.options x) ∙ m))
+sort_value s f x c h m = cell_is_value (sort_plan s) f c (sort_cell_of s f x c h m)
 
 pub sort_cause : (e : PxError) (s : PlannedSort) (f : Frame) (x : NamedCell) → IsCellOf s.physical_expr f x → Refuses e (sort_named s.options x) → IsCause e (sort_plan s) f
 sort_cause e s f x h =

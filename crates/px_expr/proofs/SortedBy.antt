@@ -20,7 +20,8 @@ use Rattle.px_tree.specs.Value.{made as valued}
 use Rattle.px_tree.specs.declared.context.Context.TheVariants.{Default}
 use Rattle.px_expr.specs.Parts.{PlannedSortBy, plan_trees, sort_by_plan}
 use Rattle.px_expr.specs.Value.{AreCellsOf, IsCause, IsCauseOfAny, IsCellOf, IsOneOf, IsValue, causes_on}
-use Rattle.px_expr.proofs.Applied.{cell_back, invalid_cause, shape_cause, spread_refused}
+use Rattle.px_expr.proofs.Cells.{cell_is_value}
+use Rattle.px_expr.proofs.Applied.{invalid_cause, shape_cause, spread_refused}
 use Rattle.px_expr.proofs.InputLists.{AreInputs, among_right, cause_of_first, cause_of_inputs, cause_of_others, inputs_of}
 
 two_refusals : {X Y Z : Type 0} (a : Result X PxError) (b : Result Y PxError) (make : X → Y → Z) (e : PxError) → (a >>= λ x. b >>= λ y. Ok (make x y)) ≡ Err e → (a ≡ Err e) ⊎ (b ≡ Err e)
@@ -82,13 +83,13 @@ module _ (s : PlannedSortBy) (f : Frame) (c : NamedCell) (cs : List NamedCell) (
       among_right e _ (faults_on (sort_by_plan s).tree f)
       (among_right e (all_faults_on (plan_trees (s.input ∷ s.by)) f) (fault_in (outcome_on (sort_by_plan s).tree f)) (subst (λ o. IsOneOf e (fault_in o)) (sym (outcome ∙ ap Some h)) (inl refl)))
 
-  pub sort_by_value : (d : NamedCell) → sort_by_named s.sort_options c cs ≡ Ok d → IsValue (sort_by_plan s) f (column_of_cell d)
-  sort_by_value d h = record {
+  pub sort_by_cell_of : (d : NamedCell) → sort_by_named s.sort_options c cs ≡ Ok d → IsCellOf (sort_by_plan s) f d
+  sort_by_cell_of d h = record {
     sound = rw (all.refused, keys.kinds, made.no_list, all.found, all.fits, all.faults, outcome, made.cell_is) refl;
     name = sym made.name_is ∙ is.name;
     kind = is.kind ∙ ap Some made.kind_is;
-    value = ap valued (outcome ∙ ap Some made.cell_is) ∙ (ap Some (sym (ap (λ u. cell_of u (list_of d.cell)) (sym of_rows) ∙ cell_back d.cell)));
-    unit = λ u. absurd (cc u);
+    value = ap valued (outcome ∙ ap Some made.cell_is);
+    shape = of_rows;
   }
     where
       made : IsSortedFrom (list_any is_list_kind (kinds_of cs)) (sort_by_cell s.sort_options c.cell (cells_in cs)) c d
@@ -96,6 +97,9 @@ module _ (s : PlannedSortBy) (f : Frame) (c : NamedCell) (cs : List NamedCell) (
 
       of_rows : is_unit_cell d.cell ≡ false
       of_rows = rows_of_keys (spread_keys (length (list_of c.cell)) (cells_in cs)) (λ ks. slots_at (list_of c.cell) (sorted_rows (sort_keys s.sort_options ks) (length (list_of c.cell)))) d.cell made.cell_is
+
+  pub sort_by_value : (d : NamedCell) → sort_by_named s.sort_options c cs ≡ Ok d → IsValue (sort_by_plan s) f (column_of_cell d)
+  sort_by_value d h = cell_is_value (sort_by_plan s) f d (sort_by_cell_of d h)
 
   sort_by_cause : (e : PxError) → sort_by_named s.sort_options c cs ≡ Err e → IsCause e (sort_by_plan s) f
   sort_by_cause e h = by (unsorted (list_any is_list_kind (kinds_of cs)) (sort_by_cell s.sort_options c.cell (cells_in cs)) c e h)
