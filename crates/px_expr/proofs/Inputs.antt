@@ -50,7 +50,7 @@ one_right e [] ys h = h
 one_right e (x ∷ xs) ys h = inr (one_right e xs ys h)
 
 -- and of two lists it is of one
-one_split : (e : PxError) (xs ys : List PxError) → IsOneOf e (xs ++ ys) → IsOneOf e xs ⊎ IsOneOf e ys
+pub one_split : (e : PxError) (xs ys : List PxError) → IsOneOf e (xs ++ ys) → IsOneOf e xs ⊎ IsOneOf e ys
 one_split e [] ys h = inr h
 one_split e (x ∷ xs) ys (inl h) = inl (inl h)
 one_split e (x ∷ xs) ys (inr h) = later (one_split e xs ys h)
@@ -59,7 +59,7 @@ one_split e (x ∷ xs) ys (inr h) = later (one_split e xs ys h)
     later (inl k) = inl (inr k)
     later (inr k) = inr k
 
-both_up : (e : PxError) (xs ys us vs : List PxError) → (IsOneOf e xs → IsOneOf e us) → (IsOneOf e ys → IsOneOf e vs) → IsOneOf e (xs ++ ys) → IsOneOf e (us ++ vs)
+pub both_up : (e : PxError) (xs ys us vs : List PxError) → (IsOneOf e xs → IsOneOf e us) → (IsOneOf e ys → IsOneOf e vs) → IsOneOf e (xs ++ ys) → IsOneOf e (us ++ vs)
 both_up e xs ys us vs w z h = by (one_split e xs ys h)
   where
     by : IsOneOf e xs ⊎ IsOneOf e ys → IsOneOf e (us ++ vs)
@@ -75,7 +75,7 @@ where_up e s true c w h = rw (w refl) h
 where_up e s false c w h = absurd h
 
 -- what is of one expression is of all
-in_all : (e : PxError) (g : Planned → List PxError) (p : Planned) (ps : List Planned) → IsIn p ps → IsOneOf e (g p) → IsOneOf e (flat_map g ps)
+pub in_all : (e : PxError) (g : Planned → List PxError) (p : Planned) (ps : List Planned) → IsIn p ps → IsOneOf e (g p) → IsOneOf e (flat_map g ps)
 in_all e g p [] i h = absurd i
 in_all e g p (q ∷ qs) (inl s) h = one_left e (g q) (flat_map g qs) (subst (λ (x : Planned). IsOneOf e (g x)) s h)
 in_all e g p (q ∷ qs) (inr i) h = one_right e (g q) (flat_map g qs) (in_all e g p qs i h)
@@ -93,7 +93,7 @@ any_in t p (q ∷ qs) (inr i) h =
     list_any-append t (leaf_names q.tree) (flat_map (λ (x : Planned). leaf_names x.tree) qs)
     ∙ or_true (list_any t (leaf_names q.tree)) (list_any t (flat_map (λ (x : Planned). leaf_names x.tree) qs)) (any_in t p qs i h)
 
-size_in : (p : Planned) (ps : List Planned) (fs : List Frame) → IsIn p ps → size_on p.tree fs ≤ sizes_on (plan_trees ps) fs
+pub size_in : (p : Planned) (ps : List Planned) (fs : List Frame) → IsIn p ps → size_on p.tree fs ≤ sizes_on (plan_trees ps) fs
 size_in p [] fs i = absurd i
 size_in p (q ∷ qs) fs (inl s) = let same : size_on p.tree fs ≡ size_on q.tree fs = ap (λ (x : Planned). size_on x.tree fs) s in omega (arith, same)
 size_in p (q ∷ qs) fs (inr i) = let less = size_in p qs fs i in omega (arith, less)
@@ -103,7 +103,7 @@ columns_apart u [] = refl
 columns_apart u (p ∷ ps) = flat_map-append u p.columns (flat_map (λ (x : Planned). x.columns) ps) ∙ ap (λ es. flat_map u p.columns ++ es) (columns_apart u ps)
 
 -- a node's column nodes that find no column are its inputs'
-unfound_apart : (q : Planned) (ps : List Planned) (f : Frame) → IsNode q ps f → flat_map (unfound_refusal f) q.columns ≡ flat_map (λ (p : Planned). flat_map (unfound_refusal f) p.columns) ps
+pub unfound_apart : (q : Planned) (ps : List Planned) (f : Frame) → IsNode q ps f → flat_map (unfound_refusal f) q.columns ≡ flat_map (λ (p : Planned). flat_map (unfound_refusal f) p.columns) ps
 unfound_apart q ps f n = ap (flat_map (unfound_refusal f)) n.columns ∙ columns_apart (unfound_refusal f) ps
 
 -- a cause of one expression is a cause of another where each size and each other cause is
@@ -112,39 +112,42 @@ cause_of OutOfMemory p q f s c h = tt
 cause_of (ComputeError TooLong) p q f s c h = s h
 cause_of _ p q f s c h = c h
 
+-- the refusals of an input's type are the node's
+pub refusals_above : (e : PxError) (q : Planned) (ps : List Planned) (p : Planned) (f : Frame) → IsNode q ps f → IsIn p ps → IsOneOf e (refusals_of p.tree (scope_of f) Default) → IsOneOf e (refusals_of q.tree (scope_of f) Default)
+refusals_above e q ps p f n i k =
+    subst (IsOneOf e) (sym n.refusals)
+    (first_up e (flat_map (λ (x : Planned). refusals_of x.tree (scope_of f) Default) ps) (own_refusals q.tree (scope_of f) Default)
+    (in_all e (λ (x : Planned). refusals_of x.tree (scope_of f) Default) p ps i k))
+
+-- and so are the columns that it does not find
+pub unfound_above : (e : PxError) (q : Planned) (ps : List Planned) (p : Planned) (f : Frame) → IsNode q ps f → IsIn p ps → IsOneOf e (flat_map (unfound_refusal f) p.columns) → IsOneOf e (flat_map (unfound_refusal f) q.columns)
+unfound_above e q ps p f n i k = subst (IsOneOf e) (sym (unfound_apart q ps f n)) (in_all e (λ (x : Planned). flat_map (unfound_refusal f) x.columns) p ps i k)
+
+-- all that is told of an input is told of the node
+pub causes_above : (e : PxError) (q : Planned) (ps : List Planned) (p : Planned) (f : Frame) → IsNode q ps f → IsIn p ps → IsOneOf e (causes_on p f) → IsOneOf e (causes_on q f)
+causes_above e q ps p f n i k =
+    let rp = refusals_of p.tree (scope_of f) Default in
+    let rq = refusals_of q.tree (scope_of f) Default in
+    let up = flat_map (unfound_refusal f) p.columns in
+    let uq = flat_map (unfound_refusal f) q.columns in
+    let mp = refused_where (has_misfit p.tree f) ShapeMismatch in
+    let mq = refused_where (has_misfit q.tree f) ShapeMismatch in
+    both_up e (rp ++ up ++ mp) (faults_on p.tree f) (rq ++ uq ++ mq) (faults_on q.tree f)
+    (both_up e (rp ++ up) mp (rq ++ uq) mq (both_up e rp up rq uq (refusals_above e q ps p f n i) (unfound_above e q ps p f n i)) misfit) faults k
+  where
+    misfit : IsOneOf e (refused_where (has_misfit p.tree f) ShapeMismatch) → IsOneOf e (refused_where (has_misfit q.tree f) ShapeMismatch)
+    misfit j = where_up e ShapeMismatch (has_misfit p.tree f) (has_misfit q.tree f) (λ t. ap (list_any (is_misfit f)) n.leaves ∙ any_in (is_misfit f) p ps i t) j
+
+    faults : IsOneOf e (faults_on p.tree f) → IsOneOf e (faults_on q.tree f)
+    faults j = subst (IsOneOf e) (sym n.faults) (one_left e (flat_map (λ (x : Planned). faults_on x.tree f) ps) (fault_in (outcome_on q.tree f)) (in_all e (λ (x : Planned). faults_on x.tree f) p ps i j))
+
 -- the causes of an input are causes of the node
 pub cause_above : (e : PxError) (q : Planned) (ps : List Planned) (p : Planned) (f : Frame) → IsNode q ps f → IsIn p ps → IsCause e p f → IsCause e q f
 cause_above e q ps p f n i h =
-    cause_of e p q f (λ (b : 2 ^ 32 ≤ size_on p.tree (f ∷ [])). omega (arith, b, n.sizes, size_in p ps (f ∷ []) i)) among h
-  where
-    refusals : IsOneOf e (refusals_of p.tree (scope_of f) Default) → IsOneOf e (refusals_of q.tree (scope_of f) Default)
-    refusals k =
-        subst (IsOneOf e) (sym n.refusals)
-        (first_up e (flat_map (λ (x : Planned). refusals_of x.tree (scope_of f) Default) ps) (own_refusals q.tree (scope_of f) Default)
-        (in_all e (λ (x : Planned). refusals_of x.tree (scope_of f) Default) p ps i k))
-
-    unfound : IsOneOf e (flat_map (unfound_refusal f) p.columns) → IsOneOf e (flat_map (unfound_refusal f) q.columns)
-    unfound k = subst (IsOneOf e) (sym (unfound_apart q ps f n)) (in_all e (λ (x : Planned). flat_map (unfound_refusal f) x.columns) p ps i k)
-
-    misfit : IsOneOf e (refused_where (has_misfit p.tree f) ShapeMismatch) → IsOneOf e (refused_where (has_misfit q.tree f) ShapeMismatch)
-    misfit k = where_up e ShapeMismatch (has_misfit p.tree f) (has_misfit q.tree f) (λ t. ap (list_any (is_misfit f)) n.leaves ∙ any_in (is_misfit f) p ps i t) k
-
-    faults : IsOneOf e (faults_on p.tree f) → IsOneOf e (faults_on q.tree f)
-    faults k = subst (IsOneOf e) (sym n.faults) (one_left e (flat_map (λ (x : Planned). faults_on x.tree f) ps) (fault_in (outcome_on q.tree f)) (in_all e (λ (x : Planned). faults_on x.tree f) p ps i k))
-
-    among : IsOneOf e (causes_on p f) → IsOneOf e (causes_on q f)
-    among k =
-        let rp = refusals_of p.tree (scope_of f) Default in
-        let rq = refusals_of q.tree (scope_of f) Default in
-        let up = flat_map (unfound_refusal f) p.columns in
-        let uq = flat_map (unfound_refusal f) q.columns in
-        let mp = refused_where (has_misfit p.tree f) ShapeMismatch in
-        let mq = refused_where (has_misfit q.tree f) ShapeMismatch in
-        both_up e (rp ++ up ++ mp) (faults_on p.tree f) (rq ++ uq ++ mq) (faults_on q.tree f)
-        (both_up e (rp ++ up) mp (rq ++ uq) mq (both_up e rp up rq uq refusals unfound) misfit) faults k
+    cause_of e p q f (λ (b : 2 ^ 32 ≤ size_on p.tree (f ∷ [])). omega (arith, b, n.sizes, size_in p ps (f ∷ []) i)) (causes_above e q ps p f n i) h
 
 -- nothing of all is nothing of each
-all_none : (g h : Planned → List PxError) (ps : List Planned) → ((p : Planned) → g p ≡ [] → h p ≡ []) → flat_map g ps ≡ [] → flat_map h ps ≡ []
+pub all_none : (g h : Planned → List PxError) (ps : List Planned) → ((p : Planned) → g p ≡ [] → h p ≡ []) → flat_map g ps ≡ [] → flat_map h ps ≡ []
 all_none g h [] w e = refl
 all_none g h (p ∷ ps) w e =
     let here = w p (none_left (g p) (flat_map g ps) e) in
@@ -157,11 +160,11 @@ none_parts r u m fs h =
     let b = none_left (r ++ u) m a in
     (none_left r u b, none_right r u b, none_right (r ++ u) m a, none_right (r ++ u ++ m) fs h)
 
-parts_none : (r u m fs : List PxError) → r ≡ [] → u ≡ [] → m ≡ [] → fs ≡ [] → r ++ u ++ m ++ fs ≡ []
+pub parts_none : (r u m fs : List PxError) → r ≡ [] → u ≡ [] → m ≡ [] → fs ≡ [] → r ++ u ++ m ++ fs ≡ []
 parts_none r u m fs a b c d = rw (a, b, c, d) refl
 
 -- an expression with no cause: its four kinds of causes
-parts_of : (p : Planned) (f : Frame) → causes_on p f ≡ [] → (refusals_of p.tree (scope_of f) Default ≡ []) × (flat_map (unfound_refusal f) p.columns ≡ []) × (refused_where (has_misfit p.tree f) ShapeMismatch ≡ []) × (faults_on p.tree f ≡ [])
+pub parts_of : (p : Planned) (f : Frame) → causes_on p f ≡ [] → (refusals_of p.tree (scope_of f) Default ≡ []) × (flat_map (unfound_refusal f) p.columns ≡ []) × (refused_where (has_misfit p.tree f) ShapeMismatch ≡ []) × (faults_on p.tree f ≡ [])
 parts_of p f h = none_parts (refusals_of p.tree (scope_of f) Default) (flat_map (unfound_refusal f) p.columns) (refused_where (has_misfit p.tree f) ShapeMismatch) (faults_on p.tree f) h
 
 not_where : (b : Bool) (s : PxError) → refused_where b s ≡ [] → b ≡ false
