@@ -1,4 +1,4 @@
-use Rattle.std.proofs.Common.{◌∙◌, [], ◌∷◌, length, ap}
+use Rattle.std.proofs.Common.{◌∙◌, [], ◌∷◌, length, ap, arith}
 use Rattle.px_frame.specs.Frame.{are_below}
 use Rattle.px_nodes.proofs.Ordering.{below_sorted, length_sorted, sorted_is}
 use Rattle.px_nodes.proofs.sort.sort_column.Goals as goal
