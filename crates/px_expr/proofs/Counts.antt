@@ -12,7 +12,7 @@ use Rattle.px_tree.specs.Tree.{Tree, alias, binary, ternary, cast, agg, window}
 use Rattle.px_expr.specs.Counted.{RunAtMost, RunExactly}
 
 -- flat rows are flat
-rows_flat : (e : Tree) → is_flat_rows e ≡ true → is_flat e ≡ true
+pub rows_flat : (e : Tree) → is_flat_rows e ≡ true → is_flat e ≡ true
 rows_flat e h = rw h refl
 
 -- the bound of flat rows
@@ -27,20 +27,20 @@ at_most e f old new w h k = record { rises = h; cost = by (is_flat e) refl }
     by true t = k t
     by false t = rw w tt
 
-and_left : (a b : Bool) → (a && b) ≡ true → a ≡ true
+pub and_left : (a b : Bool) → (a && b) ≡ true → a ≡ true
 and_left true b h = refl
 and_left false b h = absurd (cc h)
 
-and_right : (a b : Bool) → (a && b) ≡ true → b ≡ true
+pub and_right : (a b : Bool) → (a && b) ≡ true → b ≡ true
 and_right true b h = h
 and_right false b h = absurd (cc h)
 
-or_none : (a : Bool) → (a || false) ≡ true → a ≡ true
+pub or_none : (a : Bool) → (a || false) ≡ true → a ≡ true
 or_none true h = refl
 or_none false h = absurd (cc h)
 
 -- operators
-binary_flat : (l r : Tree) (op : Operator) → is_flat (binary l op r) ≡ true → (is_flat_rows l ≡ true) × (is_flat_rows r ≡ true)
+pub binary_flat : (l r : Tree) (op : Operator) → is_flat (binary l op r) ≡ true → (is_flat_rows l ≡ true) × (is_flat_rows r ≡ true)
 binary_flat l r op h =
     let rows = or_none (is_flat_rows l && is_flat_rows r) h in
     (and_left (is_flat_rows l) (is_flat_rows r) rows, and_right (is_flat_rows l) (is_flat_rows r) rows)
@@ -65,7 +65,7 @@ binary_cost_right l r op f i j k x y =
     (λ t. let rows = binary_flat l r op t in omega (arith, rows_cost l f i j x rows.0, rows_cost r f j k y rows.1))
 
 -- ternaries
-ternary_flat : (p a b : Tree) → is_flat (ternary p a b) ≡ true → (is_flat_rows p ≡ true) × (is_flat_rows a ≡ true) × (is_flat_rows b ≡ true)
+pub ternary_flat : (p a b : Tree) → is_flat (ternary p a b) ≡ true → (is_flat_rows p ≡ true) × (is_flat_rows a ≡ true) × (is_flat_rows b ≡ true)
 ternary_flat p a b h =
     let rows = or_none (is_flat_rows p && (is_flat_rows a && is_flat_rows b)) h in
     let branches = and_right (is_flat_rows p) (is_flat_rows a && is_flat_rows b) rows in
@@ -96,7 +96,7 @@ ternary_cost_three p a b f i j k l x y z =
     (λ t. let rows = ternary_flat p a b t in omega (arith, rows_cost p f i j x rows.0, rows_cost a f j k y rows.1, rows_cost b f k l z rows.2))
 
 -- casts
-cast_flat : (e : Tree) (to : Kind) (o : CastOptions) → is_flat (cast e to o) ≡ true → is_flat_rows e ≡ true
+pub cast_flat : (e : Tree) (to : Kind) (o : CastOptions) → is_flat (cast e to o) ≡ true → is_flat_rows e ≡ true
 cast_flat e to Strict h = absurd (cc h)
 cast_flat e to NonStrict h = or_none (is_flat_rows e) h
 cast_flat e to Overflowing h = or_none (is_flat_rows e) h

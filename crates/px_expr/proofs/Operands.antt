@@ -151,7 +151,7 @@ ternary_node t f = record {
   sizes = omega arith;
 }
 
-ternary_typed : (t s : Bool) (k : Kind) (o : Option Kind) → o ≡ Some k → IfOk (cond t (kind_where s k) (Err SchemaMismatch)) (λ j. o ≡ Some j)
+pub ternary_typed : (t s : Bool) (k : Kind) (o : Option Kind) → o ≡ Some k → IfOk (cond t (kind_where s k) (Err SchemaMismatch)) (λ j. o ≡ Some j)
 ternary_typed true true k o h = h
 ternary_typed true false k o h = tt
 ternary_typed false s k o h = tt
@@ -206,7 +206,7 @@ cast_node c f = record {
   sizes = omega arith;
 }
 
-cast_typed : (t : Bool) (k : Kind) → IfOk (kind_where t k) (λ j. Some k ≡ Some j)
+pub cast_typed : (t : Bool) (k : Kind) → IfOk (kind_where t k) (λ j. Some k ≡ Some j)
 cast_typed true k = refl
 cast_typed false k = tt
 

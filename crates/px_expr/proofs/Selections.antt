@@ -32,11 +32,11 @@ use Rattle.px_expr.specs.Parts.{PlannedFilter, PlannedSlice, PlannedGather, Plan
 use Rattle.px_expr.specs.Value.{IsCause, IsCellOf, IsValue, causes_on}
 
 -- a refusal alone, of a type that is kept
-first_kept : (t : Bool) (e : PxError) (k : Kind) → or_first [] (refused_where (not t) e) ≡ refusal_of (cond t (Ok k) (Err e))
+pub first_kept : (t : Bool) (e : PxError) (k : Kind) → or_first [] (refused_where (not t) e) ≡ refusal_of (cond t (Ok k) (Err e))
 first_kept true e k = refl
 first_kept false e k = refl
 
-kept_kind : (t : Bool) (e : PxError) (k : Kind) (o : Option Kind) → o ≡ Some k → IfOk (cond t (Ok k) (Err e)) (λ j. o ≡ Some j)
+pub kept_kind : (t : Bool) (e : PxError) (k : Kind) (o : Option Kind) → o ≡ Some k → IfOk (cond t (Ok k) (Err e)) (λ j. o ≡ Some j)
 kept_kind true e k o h = h
 kept_kind false e k o h = tt
 
@@ -137,7 +137,7 @@ slice_node s f = record {
   sizes = omega arith;
 }
 
-first_two : (a b : Bool) (e : PxError) (k : Kind) → or_first [] (refused_where (not a || not b) e) ≡ refusal_of (cond (a && b) (Ok k) (Err e))
+pub first_two : (a b : Bool) (e : PxError) (k : Kind) → or_first [] (refused_where (not a || not b) e) ≡ refusal_of (cond (a && b) (Ok k) (Err e))
 first_two true true e k = refl
 first_two true false e k = refl
 first_two false b e k = refl
@@ -208,17 +208,17 @@ gather_node g f = record {
   sizes = omega arith;
 }
 
-first_index : (t s : Bool) (k : Kind) → or_first [] (refused_where (not t) (InvalidOperation Types) ++ refused_where s (ComputeError SingleIndex)) ≡ refusal_of (cond t (cond s (Err (ComputeError SingleIndex)) (Ok k)) (Err (InvalidOperation Types)))
+pub first_index : (t s : Bool) (k : Kind) → or_first [] (refused_where (not t) (InvalidOperation Types) ++ refused_where s (ComputeError SingleIndex)) ≡ refusal_of (cond t (cond s (Err (ComputeError SingleIndex)) (Ok k)) (Err (InvalidOperation Types)))
 first_index true true k = refl
 first_index true false k = refl
 first_index false s k = refl
 
-gather_kind : (t s : Bool) (k : Kind) (o : Option Kind) → o ≡ Some k → IfOk (cond t (cond s (Err (ComputeError SingleIndex)) (Ok k)) (Err (InvalidOperation Types))) (λ j. o ≡ Some j)
+pub gather_kind : (t s : Bool) (k : Kind) (o : Option Kind) → o ≡ Some k → IfOk (cond t (cond s (Err (ComputeError SingleIndex)) (Ok k)) (Err (InvalidOperation Types))) (λ j. o ≡ Some j)
 gather_kind true true k o h = tt
 gather_kind true false k o h = h
 gather_kind false s k o h = tt
 
-plain_index : (t s : Bool) (k : Kind) → Plain (cond t (cond s (Err (ComputeError SingleIndex)) (Ok k)) (Err (InvalidOperation Types)))
+pub plain_index : (t s : Bool) (k : Kind) → Plain (cond t (cond s (Err (ComputeError SingleIndex)) (Ok k)) (Err (InvalidOperation Types)))
 plain_index true true k = refl
 plain_index true false k = tt
 plain_index false s k = refl
@@ -286,11 +286,11 @@ sort_node s f = record {
   sizes = omega arith;
 }
 
-first_unless : (t : Bool) (e : PxError) (k : Kind) → or_first [] (refused_where (not (not t)) e) ≡ refusal_of (cond t (Err e) (Ok k))
+pub first_unless : (t : Bool) (e : PxError) (k : Kind) → or_first [] (refused_where (not (not t)) e) ≡ refusal_of (cond t (Err e) (Ok k))
 first_unless true e k = refl
 first_unless false e k = refl
 
-unless_kind : (t : Bool) (e : PxError) (k : Kind) (o : Option Kind) → o ≡ Some k → IfOk (cond t (Err e) (Ok k)) (λ j. o ≡ Some j)
+pub unless_kind : (t : Bool) (e : PxError) (k : Kind) (o : Option Kind) → o ≡ Some k → IfOk (cond t (Err e) (Ok k)) (λ j. o ≡ Some j)
 unless_kind true e k o h = tt
 unless_kind false e k o h = h
 

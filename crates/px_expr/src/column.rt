@@ -43,8 +43,9 @@ fn column_behind<'a>(columns: &'a [Column], places: usize, name: &Name) -> Optio
         .find(|column| column.name() == name)
 }
 
-/// The column that a node of this name finds, which was planned over this schema.
-fn found_column<'a>(df: &'a DataFrame, name: &Name, schema: &Schema) -> Option<&'a Column>
+/// The frame's column that a node of this name finds, which was planned over this schema: a reserved name
+/// that the schema lacks is sought behind as many columns as the schema has.
+pub fn found_column<'a>(df: &'a DataFrame, name: &Name, schema: &Schema) -> Option<&'a Column>
     ensures found { option_map (λ c. c.now) result ≡ found_by (record { name = name.now; schema = schema.now }) (alone df.now) }
     ensures column { IfSome result (λ c. look name.now df.now ≡ Some c.now) }
 {

@@ -47,7 +47,9 @@ impl CountExpr {
 
     /// The expression.
     pub fn expr(&self) -> &Expr
-        ensures { tree result.now ≡ self.now.tree }
+        ensures expression { tree result.now ≡ self.now.tree }
+        ensures tree { self.now.tree ≡ len }
+        ensures columns { self.now.columns ≡ [] }
     {
         &self.expr
     }

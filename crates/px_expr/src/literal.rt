@@ -57,8 +57,9 @@ fn kept_column(alloc: Global, value: &LiteralValue) -> Px<Option<Column>>
     }
 }
 
-/// The literal's column.
-fn column(alloc: Global, value: &LiteralValue) -> Px<Column>
+/// The column of a literal; `RangeType` and `RangeBound` as a range is refused, `TooLong` where it has 2^32
+/// integers.
+pub fn literal_column(alloc: Global, value: &LiteralValue) -> Px<Column>
     ensures { Answers result (literal_column (literal_of value.now)) }
 {
     match value {
@@ -105,7 +106,8 @@ impl LiteralExpr {
 
     /// The literal.
     pub fn value(&self) -> &LiteralValue
-        ensures { self.now.tree ≡ literal (literal_of result.now) }
+        ensures tree { self.now.tree ≡ literal (literal_of result.now) }
+        ensures columns { self.now.columns ≡ [] }
     {
         &self.value
     }
@@ -142,7 +144,7 @@ impl PhysicalExpr for LiteralExpr {
         groupings: &mut Steps<M>,
     ) -> Px<Column> {
         let _ = &self.expr;
-        column(alloc, &self.value)
+        literal_column(alloc, &self.value)
     }
 
     fn evaluate_inline(&self, alloc: Global) -> Px<Option<Column>> {

@@ -308,7 +308,7 @@ pub(crate) fn collect_all(alloc: Global, nodes: &[PhysExpr], lv: &mut IndexSet<N
 
 /// Whether each leaf of a node's expression is a literal.
 #[cycle(lit)]
-pub(crate) fn has_literals_alone(node: &PhysExpr) -> bool
+pub fn has_literals_alone(node: &PhysExpr) -> bool
     ensures { result ≡ is_literal_tree (plan_of node.now).tree }
 {
     match node {

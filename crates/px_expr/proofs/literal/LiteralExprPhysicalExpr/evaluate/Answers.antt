@@ -5,4 +5,4 @@ use Rattle.px_expr.proofs.Literals.{literal_cause}
 use Rattle.px_expr.proofs.literal.LiteralExprPhysicalExpr.evaluate.Goals as goal
 
 pub returns-clause-causes : goal.returns-clause-causes
-returns-clause-causes g c = literal_cause c.args.self.now (literal_of c.self.inside.value) (alone c.args.df.now) c.column.result (sym c.self.view_is) c.column.ensures
+returns-clause-causes g c = literal_cause c.args.self.now (literal_of c.self.inside.value) (alone c.args.df.now) c.literal_column.result (sym c.self.view_is) c.literal_column.ensures
