@@ -102,7 +102,7 @@ more_refused : (g : FunctionExpr) (i j k l : Kind) (ks : List Kind) (e : PxError
 more_refused IsNull i j k l ks e h = types_refused e h
 more_refused _ i j k l ks e h = types_refused e h
 
-kind_refused : (g : FunctionExpr) (ks : List Kind) (e : PxError) → function_kind g ks ≡ Err e → (w : InvalidWhy) × (e ≡ InvalidOperation w)
+pub kind_refused : (g : FunctionExpr) (ks : List Kind) (e : PxError) → function_kind g ks ≡ Err e → (w : InvalidWhy) × (e ≡ InvalidOperation w)
 kind_refused g [] e h = types_refused e (sym (no_input g) ∙ h)
 kind_refused g (k ∷ []) e h = one_refused g k e h
 kind_refused g (j ∷ k ∷ []) e h = two_refused g j k e h
