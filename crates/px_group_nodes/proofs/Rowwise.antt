@@ -60,11 +60,13 @@ rows_of_all [] n h = refl
 rows_of_all (x ∷ []) n h = ap (λ k. replicate k x) (sym h)
 rows_of_all (x ∷ y ∷ xs) n h = refl
 
-row_list : (a : Cell) (g : List ℕ) → rows_to (length g) (list_of (cell_at a g)) ≡ map (read a) g
+-- what stands at the rows of a group
+pub row_list : (a : Cell) (g : List ℕ) → rows_to (length g) (list_of (cell_at a g)) ≡ map (read a) g
 row_list (unit s) g = same_each s g
 row_list (rows xs) g = rows_of_all (slots_at xs g) (length g) (length-map g (slot_at xs))
 
-stands_group : (a : Cell) (g : List ℕ) → stands_at (length g) (cell_at a g) ≡ true
+-- a cell at the rows of a group stands at as many
+pub stands_group : (a : Cell) (g : List ℕ) → stands_at (length g) (cell_at a g) ≡ true
 stands_group (unit s) g = refl
 stands_group (rows xs) g = eq-eqb _ _ (length-map g (slot_at xs))
 
@@ -78,7 +80,8 @@ height_of_two (rows xs) b g h = length-map g (slot_at xs)
 height_of_two (unit s) (rows ys) g h = length-map g (slot_at ys)
 height_of_two (unit s) (unit t) g h = absurd (cc)
 
-unit_at : (a : Cell) (g : List ℕ) → is_unit_cell (cell_at a g) ≡ is_unit_cell a
+-- and is a unit where it was
+pub unit_at : (a : Cell) (g : List ℕ) → is_unit_cell (cell_at a g) ≡ is_unit_cell a
 unit_at (unit s) g = refl
 unit_at (rows xs) g = refl
 
@@ -98,7 +101,8 @@ pub record IsRow (n : ℕ) (g : List ℕ) (one : Bool) (at_group : Result Cell P
   pub stands : stands_at n c ≡ true
   pub shape : is_unit_cell c ≡ one
 
-by_rows : (n : ℕ) (g : List ℕ) (f : ℕ → Slot) (whole at_group : Result Cell PxError) (c : Cell) → are_below n g ≡ true → whole ≡ Ok (rows (map f (range_with_len 0 n))) → at_group ≡ Ok (rows (map f g)) → whole ≡ Ok c → IsRow n g false at_group c
+-- what is made of all rows and of those of a group
+pub by_rows : (n : ℕ) (g : List ℕ) (f : ℕ → Slot) (whole at_group : Result Cell PxError) (c : Cell) → are_below n g ≡ true → whole ≡ Ok (rows (map f (range_with_len 0 n))) → at_group ≡ Ok (rows (map f g)) → whole ≡ Ok c → IsRow n g false at_group c
 by_rows n g f whole at_group c h w a e =
     let made : rows (map f (range_with_len 0 n)) ≡ c = cc in
     rw (← made) (record { at = a ∙ ap (λ ys. Ok (rows ys)) (sym (slots_below n f g h)); stands = stands_all n f; shape = refl })

@@ -31,7 +31,7 @@ pub(crate) trait Two {
 
 /// A copy of a cell that is lent, under a name.
 #[tactic(auto, using(crate::proofs::Stepping::cell_again))]
-fn copy_cell(alloc: Global, name: &Name, piece: &GroupPiece<'_>) -> Px<Cell>
+pub(crate) fn copy_cell(alloc: Global, name: &Name, piece: &GroupPiece<'_>) -> Px<Cell>
     ensures { AnswersBy named_cell result (Ok (named_part name.now piece.now)) }
 {
     let column = piece.to_column(alloc, name.try_clone(alloc)?)?;

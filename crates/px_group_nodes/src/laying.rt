@@ -52,7 +52,7 @@ fn join_cells(cells: &[Cell], mut rows: ColumnBuilder) -> Px<Column>
 }
 
 /// The context of the rows of a column at groups that are not the frame's own.
-fn flat_over<'a>(
+pub(crate) fn flat_over<'a>(
     alloc: Global,
     column: Column,
     groups: GroupPositions,
@@ -71,7 +71,7 @@ fn flat_over<'a>(
 }
 
 /// The context of cells that are lists.
-fn from_lists<'a>(
+pub(crate) fn from_lists<'a>(
     alloc: Global,
     cells: &[Cell],
     name: Name,
