@@ -1,11 +1,11 @@
 -- Three contexts that read their cells from one cell each, and what a node makes of these.
-use Rattle.std.proofs.Common.{◌≡◌, ◌⊎◌, inl, inr, ℕ, Bool, true, false, ◌&&◌, ◌||◌, if◌then◌else◌, List, [], ◌∷◌, Result, Ok, length, map, refl, subst, sym, ap, ◌∙◌}
+use Rattle.std.proofs.Common.{◌≡◌, inl, inr, ℕ, Bool, true, false, ◌&&◌, if◌then◌else◌, List, [], ◌∷◌, Result, Ok, length, map, refl, subst, sym, ap, ◌∙◌}
 use Rattle.std.specs.List.{list_all}
 use Rattle.px_column.specs.Prelude.{Kind}
 use Rattle.px_value.proofs.FitLaws.{both}
 use Rattle.px_value.specs.declared.error.PxError.{PxError}
 use Rattle.px_frame.specs.Cell.{is_unit_cell}
-use Rattle.px_frame.specs.Groups.{Group, Groups, IsGroups, is_group}
+use Rattle.px_frame.specs.Groups.{Group, IsGroups, is_group}
 use Rattle.px_frame.specs.Spread.{NamedCell}
 use Rattle.px_nodes.specs.Together.{stands_at}
 use Rattle.px_context.specs.Built.{is_unit_literal}

@@ -30,3 +30,5 @@ pub mod Singling
 pub mod Ternaries
 pub mod Slices
 pub mod SameReductions
+pub mod Windows
+pub mod SlicesFlat

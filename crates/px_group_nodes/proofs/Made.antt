@@ -1,5 +1,5 @@
 -- The contexts of cells that were made group by group, where their name, type and shape were made beside them.
-use Rattle.std.proofs.Common.{◌≡◌, ◌⊎◌, inl, inr, ℕ, ◌^◌, ◌≤◌, Bool, List, Result, Ok, Err, IfOk, IfErr, length, map, subst, sum, sym, ap, ◌∙◌}
+use Rattle.std.proofs.Common.{◌≡◌, ◌⊎◌, ℕ, ◌^◌, ◌≤◌, Bool, false, List, Result, Ok, Err, IfOk, IfErr, length, map, subst, sum, sym, ap, ◌∙◌}
 use Rattle.px_column.specs.Prelude.{Kind, Refuses}
 use Rattle.px_value.specs.declared.error.ComputeWhy.TheVariants.{TooLong}
 use Rattle.px_value.specs.declared.error.PxError.{PxError}
@@ -9,7 +9,7 @@ use Rattle.px_frame.specs.Spread.{NamedCell}
 use Rattle.px_frame.specs.declared.cell.Cell.{Cell}
 use Rattle.px_context.specs.Context.{Context, cell_kind, has_units}
 use Rattle.px_group_nodes.specs.Alike.{AreLike, lengths_in}
-use Rattle.px_group_nodes.specs.Made.{IsMade, IsRefusal, counts_in, named_cells}
+use Rattle.px_group_nodes.specs.Made.{IsMade, IsRefusal, KeepsGroups, counts_in, named_cells}
 use Rattle.px_group_nodes.proofs.Grouping.{refused_fault, refused_kind, refused_of}
 
 module _ (items cells : List Cell) (same : cells ≡ items) where
@@ -40,3 +40,8 @@ module _ (items cells : List Cell) (same : cells ≡ items) where
 -- a refusal of the type is the node's
 pub refused_typed : (e : PxError) (kind : Result Kind PxError) (answers : List (Result NamedCell PxError)) → Refuses e kind → (kind ≡ Err e) ⊎ IsRefusal e answers (counts_in answers)
 refused_typed e kind answers h = refused_fault e kind answers (counts_in answers) (refused_kind e kind answers h)
+
+-- a context that was made anew keeps no groups
+pub touched_keeps : (r : Result Context PxError) (cs : List Context) → IfOk r (λ c. c.untouched ≡ false) → IfOk r (KeepsGroups cs)
+touched_keeps (Ok c) cs h = λ e. absurd (cc)
+touched_keeps (Err e) cs h = tt

@@ -7,7 +7,7 @@ use Rattle.px_column.specs.Prelude.{Slot, slot_at}
 use Rattle.px_column.specs.Result.{◌>>=◌}
 use Rattle.px_value.specs.declared.error.PxError.{PxError}
 use Rattle.px_frame.specs.Cell.{Cell, unit, rows, list_of, is_unit_cell, cell_of}
-use Rattle.px_frame.specs.Frame.{are_below, slots_at}
+use Rattle.px_frame.specs.Frame.{are_below}
 use Rattle.px_frame.specs.Spread.{rows_beside, spread}
 use Rattle.px_tree.specs.Node.{zip_three_cells}
 use Rattle.px_nodes.specs.Together.{rows_or, stands_at, are_three_beside}

@@ -1,5 +1,5 @@
 -- The answers of a slice have its input's name and type, and are lists.
-use Rattle.std.proofs.Common.{◌≡◌, ℕ, ℤ, Bool, ◌&&◌, true, false, List, Result, Ok, Err, Option, if◌then◌else◌, map, refl, sym, ap, ◌∙◌}
+use Rattle.std.proofs.Common.{◌≡◌, ℤ, Bool, ◌&&◌, true, false, List, Result, Ok, Err, Option, if◌then◌else◌, map, refl, sym, ap, ◌∙◌}
 use Rattle.px_column.specs.Function.{window_of}
 use Rattle.px_column.specs.Prelude.{Kind, Slot}
 use Rattle.px_column.specs.Result.{◌>>=◌}

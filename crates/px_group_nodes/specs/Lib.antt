@@ -16,4 +16,5 @@ pub mod Lanes
 pub mod Reduction
 pub mod Three
 pub mod Ternary
+pub mod Windows
 pub mod Slice

@@ -12,6 +12,7 @@ mod each_three;
 mod filter;
 mod function_type;
 mod gather;
+mod group_windows;
 mod kept;
 mod lane;
 mod laying;
