@@ -2,10 +2,11 @@
 ghost use Rattle.std.specs.Prelude.{◌≡◌, ◌+◌, ◌<◌, ◌≤◌, Some, IfOk, IfErr, IfSome, length, map, slice_get, slice_index, true};
 ghost use Rattle.px_value.specs.declared.error.PxError.TheVariants.{OutOfMemory};
 ghost use Rattle.px_column.specs.Window.{IsLimit, IsOffset};
-ghost use Rattle.px_frame.specs.Groups.{first_row, group_of, rows_of};
+ghost use Rattle.px_frame.specs.Groups.{group_of, rows_of};
 ghost use Rattle.px_frame.specs.GroupsView.{all_end_within, idx_group, slice_group};
 ghost use Rattle.px_group_nodes.specs.Windows.{windows_of};
 
+use crate::kept::first_row;
 use px_column::{Px, slice_window};
 use px_frame::{GroupPositions, GroupsIndicator, GroupsType, IdxVec};
 use std::alloc::Global;
@@ -78,16 +79,6 @@ fn window_rows(
         rows.push(group.row(start + place))?;
     }
     Ok(rows)
-}
-
-/// The first of some rows, 0 without one.
-fn first_row(rows: &[u32]) -> u32
-    ensures { result ≡ first_row rows.now }
-{
-    match rows.first() {
-        Some(row) => *row,
-        None => 0,
-    }
 }
 
 /// The rows of each group from an offset on, so many, with the first of them as its number.

@@ -52,7 +52,7 @@ fn keep_rows(alloc: Global, mask: &Column, group: GroupsIndicator<'_>) -> Px<Idx
 }
 
 /// The first row, and 0 where there is none.
-fn first_of(rows: &[u32]) -> u32
+pub(crate) fn first_row(rows: &[u32]) -> u32
     ensures { result ≡ first_row rows.now }
 {
     match rows.first() {
@@ -70,7 +70,7 @@ fn keep_each(alloc: Global, mask: &Column, groups: &GroupPositions) -> Px<Vec<(u
     let mut kept = Vec::with_capacity(alloc, groups.len() as usize)?;
     for index in 0..groups.len() {
         let rows = keep_rows(alloc, mask, groups.group(index))?;
-        kept.push((first_of(rows.as_slice()), rows))?;
+        kept.push((first_row(rows.as_slice()), rows))?;
     }
     Ok(kept)
 }

@@ -11,6 +11,6 @@ loop-index-preserved c =
     let mask = rows c.args.mask.now.slots in
     let p = lent_group c.group.result in
     let kept : c.in_ok-rows.rows.items ≡ filter (truth_at mask) p.rows = cc (c.in_ok-rows.ensures) in
-    let first : c.first_of.result ≡ first_row c.in_ok-rows.rows.items = c.first_of.ensures ∙ ap first_row c.as_slice.ensures in
-    kept_next idx_group (kept_group mask) c.args.groups.now.groups c.loop-index.index p c.loop-index.kept.items _ (c.first_of.result, c.in_ok-rows.rows) c.in_ok-push.ensures.items c.loop-index.invariant c.group.ensures.group
-    (group_made c.first_of.result c.in_ok-rows.rows.items (filter (truth_at mask) p.rows) kept first)
+    let first : c.first_row.result ≡ first_row c.in_ok-rows.rows.items = c.first_row.ensures ∙ ap first_row c.as_slice.ensures in
+    kept_next idx_group (kept_group mask) c.args.groups.now.groups c.loop-index.index p c.loop-index.kept.items _ (c.first_row.result, c.in_ok-rows.rows) c.in_ok-push.ensures.items c.loop-index.invariant c.group.ensures.group
+    (group_made c.first_row.result c.in_ok-rows.rows.items (filter (truth_at mask) p.rows) kept first)
