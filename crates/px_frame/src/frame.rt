@@ -8,8 +8,8 @@ ghost use Rattle.px_value.specs.declared.error.PxError.TheVariants.{Duplicate};
 ghost use Rattle.px_frame.specs.Frame.{look, height_of, frame_of, first_repeat, all_have_height, has_height, names_of, name_eq, unless_repeated, subframe, are_below, are_in_all, taken_series, kept_frame, kept_series};
 ghost use Rattle.px_frame.specs.Schema.{column_field};
 
-use crate::taking::all_some;
 use crate::schema::{Schema, schema_of};
+use crate::taking::all_some;
 use indexmap::IndexSet;
 use px_column::{Column, Name, Px, PxError, is_boolean};
 use std::alloc::Global;

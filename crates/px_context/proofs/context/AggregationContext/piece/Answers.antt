@@ -21,7 +21,7 @@ returns-in-Lists c =
     let was = c.args.self.now in
     let got = part_got was Lists c.args.group c.layout.ensures.context (sym c.layout.ensures.layout ∙ c.in-Lists.is) c.requires in
     let here : c.of_items.result ≡ part (item_kind was.values.kind) (rows (items_at (slot_at was.values.slots c.args.group))) =
-        cc (c.of_items.ensures, c.items_type.ensures, c.dtype.ensures, c.get_values-column.ensures, c.values_at.ensures.values) in
+    cc (c.of_items.ensures, c.items_type.ensures, c.dtype.ensures, c.get_values-column.ensures, c.values_at.ensures.values) in
     got ∙ ap (λ (p : Part). Some p) (sym here)
 
 pub returns-in-Scalars : goal.returns-in-Scalars
