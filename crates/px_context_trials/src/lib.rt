@@ -4,6 +4,8 @@
 #[cfg(test)]
 mod generated;
 #[cfg(test)]
+mod states;
+#[cfg(test)]
 mod told;
 #[cfg(test)]
 mod windows;

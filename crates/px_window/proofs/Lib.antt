@@ -4,3 +4,4 @@ pub mod Joining
 pub mod Laying
 pub mod Exploding
 pub mod Whole
+pub mod Caching

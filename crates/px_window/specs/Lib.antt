@@ -1,4 +1,6 @@
 pub mod Flags
+pub mod State
+pub mod StateLends
 pub mod Key
 pub mod Places
 pub mod Placed

@@ -1,6 +1,7 @@
 //! What an evaluation keeps beside the frame, the groups of windows, and where their values stand.
 #![tactic(auto)]
 
+mod cached_value;
 mod flags;
 mod key;
 mod ordering;
@@ -8,6 +9,7 @@ mod places;
 mod placing;
 mod state;
 
+pub use cached_value::CachedValue;
 pub use flags::StateFlags;
 pub use key::CacheKey;
 pub use ordering::ordered_groups;
