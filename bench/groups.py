@@ -1,0 +1,120 @@
+#!/usr/bin/env python3
+"""Prints a Markdown table of px on group steps over ROWS rows, each beside pandas and sqlite3 on the same bytes, and of px on many aggregations.
+
+groups.py PX [ROWS] ; PX is the path of the executable. Seconds are wall seconds of a whole run, each the best of three; a peer prints a line for each group.
+"""
+
+import json
+import os
+import shutil
+import subprocess
+import sys
+import tempfile
+import time
+
+HERE = os.path.dirname(os.path.abspath(__file__))
+A, B = {"col": "a"}, {"col": "b"}
+PLAIN = {"descending": False, "nulls_last": False}
+
+
+def aggregate(name, expression, *more):
+    return {"agg": [name, expression, *more]}
+
+
+def integer(value):
+    return {"lit": {"type": "Int64", "value": value}}
+
+
+TEN = [
+    aggregate("Sum", A),
+    aggregate("Min", A),
+    aggregate("Max", A),
+    aggregate("First", A),
+    aggregate("Last", A),
+    aggregate("NUnique", B),
+    aggregate("Count", A, False),
+    {"len": None},
+    aggregate("Sum", {"bin": ["Multiply", A, B]}),
+    aggregate("Sum", {"filter": [A, {"bin": ["Lt", A, B]}]}),
+]
+STEPS = {
+    "ten": TEN,
+    "slice": [{"slice": [{"sort": [A, PLAIN]}, integer(0), integer(3)]}],
+    "list": [A],
+}
+
+
+def document(rows, groups, aggregations):
+    columns = {
+        "k": [row * 7919 % groups for row in range(rows)],
+        "a": [row * 7919 % 1000003 for row in range(rows)],
+        "b": [row * 104729 % 1009 for row in range(rows)],
+    }
+    named = [{"alias": [it, f"m{place}"]} for place, it in enumerate(aggregations)]
+    step = {"group": {"keys": [{"col": "k"}], "aggs": named, "chunks": None}}
+    return columns, [step]
+
+
+def many(rows, width):
+    """As many columns as aggregations, each the sum of a product with a column of its own."""
+    columns = {"k": [row % 100 for row in range(rows)]}
+    columns |= {f"c{it}": [row % 7 for row in range(rows)] for it in range(width)}
+    made = [aggregate("Sum", {"bin": ["Plus", {"col": f"c{it}"}, integer(1)]}) for it in range(width)]
+    step = {"group": {"keys": [{"col": "k"}], "aggs": made, "chunks": None}}
+    return columns, [step]
+
+
+def write(file, columns, steps):
+    listed = [{"name": it, "type": "Int64", "values": columns[it]} for it in columns]
+    json.dump({"columns": listed, "steps": steps}, file, separators=(",", ":"))
+    file.flush()
+
+
+def seconds(command, path):
+    best = None
+    for _ in range(3):
+        with open(path) as source:
+            start = time.perf_counter()
+            subprocess.run(command, stdin=source, stdout=subprocess.DEVNULL, check=True)
+            taken = time.perf_counter() - start
+        best = taken if best is None else min(best, taken)
+    return best
+
+
+def peers(step):
+    for python in ("python3", "/usr/bin/python3"):
+        has = subprocess.run([python, "-c", "import pandas"], stderr=subprocess.DEVNULL)
+        if has.returncode == 0:
+            yield "pandas", [python, f"{HERE}/peers/groups.py", step]
+            break
+    if shutil.which("sqlite3"):
+        yield "sqlite3", ["sqlite3", ":memory:", f".read {HERE}/peers/groups_{step}.sql"]
+
+
+def measure(px, made):
+    with tempfile.NamedTemporaryFile("w") as file:
+        write(file, *made)
+        return seconds([px, "run"], file.name)
+
+
+def main(px, rows="1000000"):
+    rows = int(rows)
+    print(f"{rows} rows\n")
+    print("| step | groups | px, seconds | twice the rows | peer | its seconds | px / peer |")
+    print("|---|--:|--:|--:|---|--:|--:|")
+    for step, aggregations in STEPS.items():
+        for groups in (1000, rows // 3, rows):
+            with tempfile.NamedTemporaryFile("w") as file:
+                write(file, *document(rows, groups, aggregations))
+                once = seconds([px, "run"], file.name)
+                scale = 2 if groups > 1000 else 1
+                twice = measure(px, document(2 * rows, scale * groups, aggregations)) / once
+                for name, command in peers(step):
+                    other = seconds(command, file.name)
+                    print(f"| {step} | {groups} | {once:.3f} | {twice:.2f} | {name} | {other:.3f} | {once / other:.3f} |", flush=True)
+    print("\n| aggregations over as many columns, 2000 rows | px, seconds |\n|--:|--:|")
+    for width in (500, 1000, 2000):
+        print(f"| {width} | {measure(px, many(2000, width)):.3f} |", flush=True)
+
+
+main(*sys.argv[1:])
