@@ -12,13 +12,13 @@ use Rattle.px_tree.specs.Nodes.{all_nodes_of, nodes_of}
 use Rattle.px_tree.specs.Partition.{is_row_function}
 use Rattle.px_tree.specs.Tree.{Call, Tree, Trees, called, function, sort_by}
 use Rattle.px_value.specs.declared.sort_options.SortMultipleOptions.{SortMultipleOptions}
-use Rattle.px_expr.specs.Counted.{RunAllAtLeast, RunAllAtMost, RunAllExactly, RunAtMost, RunExactly, flat_kernels}
+use Rattle.px_answers.specs.Counted.{RunAllAtLeast, RunAllAtMost, RunAllExactly, RunAtMost, RunExactly, flat_kernels}
 use Rattle.px_expr.specs.NodeView.{plan_of}
-use Rattle.px_expr.specs.Parts.{plan_trees}
-use Rattle.px_expr.specs.Planned.{Planned}
-use Rattle.px_expr.specs.Value.{AreCellsOf, IsCause, IsCauseOfAny, IsCellOf}
+use Rattle.px_answers.specs.Parts.{plan_trees}
+use Rattle.px_answers.specs.Planned.{Planned}
+use Rattle.px_answers.specs.Value.{AreCellsOf, IsCause, IsCauseOfAny, IsCellOf}
 use Rattle.px_expr.specs.declared.phys_expr.PhysExpr.{PhysExpr}
-use Rattle.px_expr.proofs.InputLists.{cause_of_first, cause_of_others}
+use Rattle.px_answers.proofs.InputLists.{cause_of_first, cause_of_others}
 
 pub both_true : (x y : Bool) → (x && y) ≡ true → (x ≡ true) × (y ≡ true)
 both_true true true h = (refl, refl)

@@ -20,16 +20,16 @@ use Rattle.px_tree.specs.Tree.{Tree, Trees, Literal, single, range, series, lite
 use Rattle.px_tree.specs.Typing.{refusals_of, all_refusals_of, refused_where, own_refusals}
 use Rattle.px_tree.specs.Value.{value_on, faults_on, all_faults_on, is_misfit, outcome_on, fault_in, made}
 use Rattle.px_tree.specs.declared.context.Context.TheVariants.{Default}
-use Rattle.px_expr.proofs.Applied.{apply_value, apply_lacks}
-use Rattle.px_expr.proofs.Cells.{unit_cell_of}
+use Rattle.px_answers.proofs.Applied.{apply_value, apply_lacks}
+use Rattle.px_answers.proofs.Cells.{unit_cell_of}
 use Rattle.px_expr.proofs.CellsInOrder.{both_true}
-use Rattle.px_expr.proofs.Operands.{cast_value, cast_lacks}
-use Rattle.px_expr.specs.Inline.{AreInlineCells, HasNone, HaveNone, IsInline, IsInlineCell, are_inline, bare, column_or_none, has_one_row, is_inline, no_frame}
-use Rattle.px_expr.specs.Literal.{kept_column}
+use Rattle.px_answers.proofs.Operands.{cast_value, cast_lacks}
+use Rattle.px_answers.specs.Inline.{AreInlineCells, HasNone, HaveNone, IsInline, IsInlineCell, are_inline, bare, column_or_none, has_one_row, is_inline, no_frame}
+use Rattle.px_answers.specs.Literal.{kept_column}
 use Rattle.px_expr.specs.NodeView.{plan_of}
-use Rattle.px_expr.specs.Parts.{PlannedApply, PlannedCast, apply_plan, cast_plan, plan_columns, plan_trees}
-use Rattle.px_expr.specs.Planned.{Planned, PlannedColumn}
-use Rattle.px_expr.specs.Value.{AreCellsOf, IsCellOf, IsOneOf, IsValue, causes_on}
+use Rattle.px_answers.specs.Parts.{PlannedApply, PlannedCast, apply_plan, cast_plan, plan_columns, plan_trees}
+use Rattle.px_answers.specs.Planned.{Planned, PlannedColumn}
+use Rattle.px_answers.specs.Value.{AreCellsOf, IsCellOf, IsOneOf, IsValue, causes_on}
 use Rattle.px_expr.specs.declared.phys_expr.PhysExpr.{PhysExpr}
 
 -- no column stands beside the frame without columns

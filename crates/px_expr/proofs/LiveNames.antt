@@ -5,11 +5,11 @@ use Rattle.std.proofs.lemmas.List.{at_drop_more, at_drop_all}
 use Rattle.std.proofs.lemmas.List.Sums.{fold-append}
 use Rattle.indexmap.specs.IndexSet.{insert_key}
 use Rattle.px_frame.specs.Frame.{name_eq}
-use Rattle.px_expr.specs.Live.{added, AddsFront, all_live_names, live_names}
+use Rattle.px_answers.specs.Live.{added, AddsFront, all_live_names, live_names}
 use Rattle.px_expr.specs.NodeView.{plan_of}
-use Rattle.px_expr.specs.Parts.{plan_trees}
+use Rattle.px_answers.specs.Parts.{plan_trees}
 use Rattle.px_expr.specs.declared.phys_expr.PhysExpr.{PhysExpr}
-use Rattle.px_expr.proofs.Names.{front_more}
+use Rattle.px_answers.proofs.Names.{front_more}
 
 added_more : (set mid xs ys : List (List ℕ)) → mid ≡ added set xs → added mid ys ≡ added set (xs ++ ys)
 added_more set mid xs ys h = ap (λ s. added s ys) h ∙ sym (fold-append (insert_key name_eq) set xs ys)

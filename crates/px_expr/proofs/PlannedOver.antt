@@ -13,9 +13,9 @@ use Rattle.px_tree.specs.declared.expr.Expr.{fold-roll-Expr}
 use Rattle.px_tree.specs.declared.expr.Expr.TheVariants.{Function, rolls-Function}
 use Rattle.px_tree.specs.declared.expr.Exprs.{Exprs}
 use Rattle.px_tree.specs.declared.function.FunctionExpr.{FunctionExpr}
-use Rattle.px_expr.specs.Parts.{call_in, call_on, plan_columns, plan_trees}
+use Rattle.px_answers.specs.Parts.{call_in, call_on, plan_columns, plan_trees}
 use Rattle.px_expr.specs.Plan.{planned_over, all_planned_over}
-use Rattle.px_expr.specs.Planned.{Planned, PlannedColumn}
+use Rattle.px_answers.specs.Planned.{Planned, PlannedColumn}
 
 -- a column node of a name
 abbrev planned_column : Scope → List ℕ → PlannedColumn

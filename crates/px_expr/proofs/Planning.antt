@@ -12,7 +12,7 @@ use Rattle.px_arena.specs.Named.{NamedNode}
 use Rattle.px_tree.specs.Tree.{Tree}
 use Rattle.px_tree.specs.Typing.{Scope}
 use Rattle.px_tree.specs.declared.context.Context.{Context}
-use Rattle.px_expr.specs.Planned.{Planned}
+use Rattle.px_answers.specs.Planned.{Planned}
 use Rattle.px_expr.specs.Plan.{noted_at, all_noted, plan_at, plans_in, NotesFront}
 use Rattle.px_expr.specs.declared.conversion.ExpressionConversionState.{ExpressionConversionState}
 

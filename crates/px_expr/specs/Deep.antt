@@ -8,7 +8,7 @@ use Rattle.px_tree.specs.Shape.{is_unit}
 use Rattle.px_tree.specs.Tree.{called, binary, ternary, cast, function, filter, slice, gather, sort, sort_by}
 use Rattle.px_tree.specs.View.{tree}
 use Rattle.px_expr.specs.NodeView.{plan_of}
-use Rattle.px_expr.specs.Parts.{call_in, plan_trees}
+use Rattle.px_answers.specs.Parts.{call_in, plan_trees}
 use Rattle.px_expr.specs.declared.phys_expr.PhysExpr.{PhysExpr}
 use Rattle.px_expr.specs.declared.phys_expr.PhysExpr.TheVariants.{Column, Literal, Alias, Binary, Ternary, Cast, Apply, Filter, Slice, Gather, Sort, SortBy, Aggregation, Count}
 use Rattle.px_expr.specs.declared.alias.AliasExpr.TheInside.{Inside as AliasInside}

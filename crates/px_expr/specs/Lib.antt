@@ -1,12 +1,5 @@
-pub mod Counted
 pub mod Deep
 pub mod Depth
-pub mod Inline
-pub mod Literal
-pub mod Live
 pub mod NodeView
-pub mod Parts
 pub mod Plan
-pub mod Planned
 pub mod Size
-pub mod Value

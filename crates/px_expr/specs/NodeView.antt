@@ -1,6 +1,6 @@
 -- What contracts see of a node of any kind.
-use Rattle.px_expr.specs.Parts.{binary_plan, ternary_plan, cast_plan, apply_plan, filter_plan, slice_plan, gather_plan, sort_plan, sort_by_plan, reduction_plan}
-use Rattle.px_expr.specs.Planned.{Planned}
+use Rattle.px_answers.specs.Parts.{binary_plan, ternary_plan, cast_plan, apply_plan, filter_plan, slice_plan, gather_plan, sort_plan, sort_by_plan, reduction_plan}
+use Rattle.px_answers.specs.Planned.{Planned}
 use Rattle.px_expr.specs.declared.phys_expr.PhysExpr.{PhysExpr}
 use Rattle.px_expr.specs.declared.phys_expr.PhysExpr.TheVariants.{Column, Literal, Alias, Binary, Ternary, Cast, Apply, Filter, Slice, Gather, Sort, SortBy, Aggregation, Count}
 

@@ -12,7 +12,7 @@ use Rattle.px_tree.specs.declared.context.Context.{Context}
 use Rattle.px_tree.specs.Built.{is_built_tree}
 use Rattle.px_tree.specs.Shape.{has_window}
 use Rattle.px_expr.specs.Depth.{is_too_deep}
-use Rattle.px_expr.specs.Planned.{Planned}
+use Rattle.px_answers.specs.Planned.{Planned}
 use Rattle.px_expr.specs.declared.conversion.ExpressionConversionState.{ExpressionConversionState}
 
 -- an expression under the name that it is given, if any

@@ -1,8 +1,8 @@
 -- The measure by which the calls of a node's children end.
 use Rattle.std.specs.Prelude.{ℕ}
 use Rattle.px_tree.specs.Nodes.{nodes_of}
-use Rattle.px_expr.specs.Parts.{PlannedBinary, PlannedTernary, PlannedCast, PlannedApply, PlannedFilter, PlannedSlice, PlannedGather, PlannedSort, PlannedSortBy, PlannedReduction, binary_plan, ternary_plan, cast_plan, apply_plan, filter_plan, slice_plan, gather_plan, sort_plan, sort_by_plan, reduction_plan}
-use Rattle.px_expr.specs.Planned.{Planned}
+use Rattle.px_answers.specs.Parts.{PlannedBinary, PlannedTernary, PlannedCast, PlannedApply, PlannedFilter, PlannedSlice, PlannedGather, PlannedSort, PlannedSortBy, PlannedReduction, binary_plan, ternary_plan, cast_plan, apply_plan, filter_plan, slice_plan, gather_plan, sort_plan, sort_by_plan, reduction_plan}
+use Rattle.px_answers.specs.Planned.{Planned}
 
 -- the number of nodes of an expression
 abbrev pub plan_size : Planned → ℕ

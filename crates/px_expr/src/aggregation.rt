@@ -3,11 +3,14 @@ ghost use Rattle.std.specs.Prelude.{◌≡◌, option_map};
 ghost use Rattle.px_frame.specs.SchemaView.{field_kind};
 ghost use Rattle.px_expr.specs.NodeView.{plan_of};
 
+use crate::on_groups::accept_reduction;
 use crate::phys_expr::{PhysExpr, evaluate_cell};
 use crate::physical::PhysicalExpr;
 use indexmap::IndexSet;
 use px_column::{Column, GroupByMethod, Name, Px, Steps, reduced_type};
-use px_frame::{DataFrame, Field, Schema};
+use px_context::AggregationContext;
+use px_frame::{DataFrame, Field, GroupPositions, Schema};
+use px_group_nodes::aggregation_groups;
 use px_nodes::aggregation_cells;
 use px_plan::Expr;
 use px_window::ExecutionState;
@@ -32,7 +35,7 @@ pub struct AggregationExpr {
 }
 
 impl Model for AggregationExpr {
-    ghost use Rattle.px_expr.specs.Parts.{PlannedReduction, coded_reduction};
+    ghost use Rattle.px_answers.specs.Parts.{PlannedReduction, coded_reduction};
 
     ghost Value = { PlannedReduction };
 
@@ -93,7 +96,7 @@ impl AggregationExpr {
 }
 
 impl PhysicalExpr for AggregationExpr {
-    ghost use Rattle.px_expr.specs.Parts.{reduction_plan};
+    ghost use Rattle.px_answers.specs.Parts.{reduction_plan};
 
     ghost planned = { reduction_plan };
 
@@ -101,7 +104,7 @@ impl PhysicalExpr for AggregationExpr {
         None
     }
 
-    #[tactic(auto, using(crate::proofs::Reductions::reduction_value, crate::proofs::Reductions::reduction_cause, crate::proofs::Reductions::reduced_cause, crate::proofs::Counts::reduction_ticks, crate::proofs::Counts::reduction_cost, crate::proofs::Counts::reduction_cost_input))]
+    #[tactic(auto, using(px_answers::proofs::Reductions::reduction_value, px_answers::proofs::Reductions::reduction_cause, px_answers::proofs::Reductions::reduced_cause, px_answers::proofs::Counts::reduction_ticks, px_answers::proofs::Counts::reduction_cost, px_answers::proofs::Counts::reduction_cost_input))]
     #[cycle(evaluate)]
     fn evaluate<L: Ledger, M: Ledger>(
         &self,
@@ -113,6 +116,24 @@ impl PhysicalExpr for AggregationExpr {
     ) -> Px<Column> {
         let input = evaluate_cell(alloc, &self.expr, df, state, kernels, groupings)?;
         Ok(aggregation_cells(alloc, input, self.agg_type.groupby, kernels)?.into_column())
+    }
+
+    #[tactic(auto, using(px_group_answers::proofs::Reductions::reduced_group_cause))]
+    #[cycle(groups)]
+    fn evaluate_on_groups<'a, L: Ledger, M: Ledger>(
+        &self,
+        alloc: Global,
+        df: &'a DataFrame,
+        groups: &'a GroupPositions,
+        state: &mut ExecutionState,
+        kernels: &mut Steps<L>,
+        groupings: &mut Steps<M>,
+    ) -> Px<AggregationContext<'a>> {
+        let input = self
+            .expr
+            .evaluate_on_groups(alloc, df, groups, state, kernels, groupings)?;
+        accept_reduction(&self.expr, self.agg_type.groupby)?;
+        aggregation_groups(alloc, input, self.agg_type.groupby, kernels)
     }
 
     fn evaluate_inline(&self, alloc: Global) -> Px<Option<Column>> {

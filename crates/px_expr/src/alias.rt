@@ -9,7 +9,8 @@ use crate::phys_expr::PhysExpr;
 use crate::physical::PhysicalExpr;
 use indexmap::IndexSet;
 use px_column::{Column, Name, Px, Steps};
-use px_frame::{DataFrame, Field, Schema};
+use px_context::AggregationContext;
+use px_frame::{DataFrame, Field, GroupPositions, Schema};
 use px_plan::Expr;
 use px_window::ExecutionState;
 use std::alloc::Global;
@@ -26,7 +27,7 @@ pub struct AliasExpr {
 }
 
 impl Model for AliasExpr {
-    ghost use Rattle.px_expr.specs.Planned.{Planned, coded_planned};
+    ghost use Rattle.px_answers.specs.Planned.{Planned, coded_planned};
 
     ghost Value = { Planned };
 
@@ -107,6 +108,24 @@ impl PhysicalExpr for AliasExpr {
             .physical_expr
             .evaluate(alloc, df, state, kernels, groupings)?;
         Ok(column.with_name(name))
+    }
+
+    #[tactic(auto, using(px_group_answers::proofs::GroupCounts::alias_group_ticks))]
+    #[cycle(groups)]
+    fn evaluate_on_groups<'a, L: Ledger, M: Ledger>(
+        &self,
+        alloc: Global,
+        df: &'a DataFrame,
+        groups: &'a GroupPositions,
+        state: &mut ExecutionState,
+        kernels: &mut Steps<L>,
+        groupings: &mut Steps<M>,
+    ) -> Px<AggregationContext<'a>> {
+        let name = self.name.try_clone(alloc)?;
+        let context = self
+            .physical_expr
+            .evaluate_on_groups(alloc, df, groups, state, kernels, groupings)?;
+        context.with_name(alloc, name)
     }
 
     fn evaluate_inline(&self, alloc: Global) -> Px<Option<Column>> {

@@ -1,19 +1,22 @@
 //! Functions of nodes.
 ghost use Rattle.std.specs.Prelude.{◌≡◌, map};
 ghost use Rattle.px_frame.specs.SchemaView.{field_kind};
-ghost use Rattle.px_tree.specs.Shape.{is_literal_tree, is_unit};
+ghost use Rattle.px_tree.specs.Shape.{has_implode, is_literal_tree, is_unit};
 ghost use Rattle.px_tree.specs.Tree.{called};
 ghost use Rattle.px_tree.specs.View.{tree};
-ghost use Rattle.px_expr.specs.Live.{is_partitioned_function};
+ghost use Rattle.px_answers.specs.Live.{is_partitioned_function};
 ghost use Rattle.px_expr.specs.NodeView.{plan_of};
-ghost use Rattle.px_expr.specs.Parts.{apply_plan, call_in, call_on, plan_trees};
+ghost use Rattle.px_answers.specs.Parts.{apply_plan, call_in, call_on, plan_trees};
 
 use crate::inline::{inline_cells, inline_function};
+use crate::on_groups::{accept_inputs, contexts_on_groups, have_implode};
 use crate::phys_expr::{PhysExpr, collect_all, evaluate_cells, have_literals_alone};
 use crate::physical::{PhysicalExpr, expression_field};
 use indexmap::IndexSet;
 use px_column::{Column, Name, Px, Steps};
-use px_frame::{DataFrame, Field, Schema, SchemaRef};
+use px_context::AggregationContext;
+use px_frame::{DataFrame, Field, GroupPositions, Schema, SchemaRef};
+use px_group_nodes::apply_groups;
 use px_nodes::apply_cells;
 use px_plan::{Expr, FunctionExpr};
 use px_window::ExecutionState;
@@ -34,7 +37,7 @@ pub struct ApplyExpr {
 }
 
 impl Model for ApplyExpr {
-    ghost use Rattle.px_expr.specs.Parts.{PlannedApply, coded_apply};
+    ghost use Rattle.px_answers.specs.Parts.{PlannedApply, coded_apply};
 
     ghost Value = { PlannedApply };
 
@@ -46,7 +49,7 @@ impl Model for ApplyExpr {
     ghost use Rattle.px_tree.specs.Tree.{called};
     ghost use Rattle.px_tree.specs.View.{tree};
     ghost use Rattle.px_expr.specs.NodeView.{plan_of};
-    ghost use Rattle.px_expr.specs.Parts.{call_in, call_on, plan_trees};
+    ghost use Rattle.px_answers.specs.Parts.{call_in, call_on, plan_trees};
     ghost use Rattle.px_expr.specs.Size.{apply_size};
 
     ghost view = { λ a. record { inputs = map plan_of a.inputs.items; call = call_in (tree a.expr); input_schema = a.input_schema.value; output_field = field_kind a.output_field } };
@@ -135,10 +138,18 @@ impl ApplyExpr {
     {
         have_literals_alone(&self.inputs)
     }
+
+    /// Whether an Implode stands in its inputs.
+    #[cycle(implode)]
+    pub(crate) fn has_implode(&self) -> bool
+        ensures { result ≡ has_implode (apply_plan self.now).tree }
+    {
+        have_implode(&self.inputs)
+    }
 }
 
 impl PhysicalExpr for ApplyExpr {
-    ghost use Rattle.px_expr.specs.Parts.{apply_plan};
+    ghost use Rattle.px_answers.specs.Parts.{apply_plan};
 
     ghost planned = { apply_plan };
 
@@ -147,7 +158,7 @@ impl PhysicalExpr for ApplyExpr {
     }
 
     #[cycle(evaluate)]
-    #[tactic(auto, using(crate::proofs::Applied::apply_value, crate::proofs::Applied::apply_refusal, crate::proofs::Applied::apply_input_cause, crate::proofs::CellsInOrder::apply_ticks, crate::proofs::CellsInOrder::apply_cost))]
+    #[tactic(auto, using(px_answers::proofs::Applied::apply_value, px_answers::proofs::Applied::apply_refusal, px_answers::proofs::Applied::apply_input_cause, crate::proofs::CellsInOrder::apply_ticks, crate::proofs::CellsInOrder::apply_cost))]
     fn evaluate<L: Ledger, M: Ledger>(
         &self,
         alloc: Global,
@@ -158,6 +169,30 @@ impl PhysicalExpr for ApplyExpr {
     ) -> Px<Column> {
         let inputs = evaluate_cells(alloc, &self.inputs, df, state, kernels, groupings)?;
         Ok(apply_cells(alloc, inputs, &self.function, kernels)?.into_column())
+    }
+
+    #[tactic(auto, using(px_group_answers::proofs::Lists::some_inputs, px_group_answers::proofs::Lists::are_paired))]
+    #[cycle(groups)]
+    fn evaluate_on_groups<'a, L: Ledger, M: Ledger>(
+        &self,
+        alloc: Global,
+        df: &'a DataFrame,
+        groups: &'a GroupPositions,
+        state: &mut ExecutionState,
+        kernels: &mut Steps<L>,
+        groupings: &mut Steps<M>,
+    ) -> Px<AggregationContext<'a>> {
+        let inputs = contexts_on_groups(
+            alloc,
+            &self.inputs,
+            df,
+            groups,
+            state,
+            kernels,
+            groupings,
+        )?;
+        accept_inputs(&self.function, &self.inputs)?;
+        apply_groups(alloc, inputs, &self.function, kernels)
     }
 
     fn evaluate_inline(&self, alloc: Global) -> Px<Option<Column>> {

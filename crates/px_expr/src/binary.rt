@@ -4,13 +4,15 @@ ghost use Rattle.px_tree.specs.Shape.{is_unit};
 ghost use Rattle.px_tree.specs.Tree.{binary};
 ghost use Rattle.px_tree.specs.View.{tree};
 ghost use Rattle.px_expr.specs.NodeView.{plan_of};
-ghost use Rattle.px_expr.specs.Parts.{binary_plan};
+ghost use Rattle.px_answers.specs.Parts.{binary_plan};
 
 use crate::phys_expr::{PhysExpr, evaluate_cell};
 use crate::physical::{PhysicalExpr, expression_field};
 use indexmap::IndexSet;
 use px_column::{Column, Name, Operator, Px, Steps};
-use px_frame::{DataFrame, Field, Schema};
+use px_context::AggregationContext;
+use px_frame::{DataFrame, Field, GroupPositions, Schema};
+use px_group_nodes::binary_groups;
 use px_nodes::binary_cells;
 use px_plan::Expr;
 use px_window::ExecutionState;
@@ -31,7 +33,7 @@ pub struct BinaryExpr {
 }
 
 impl Model for BinaryExpr {
-    ghost use Rattle.px_expr.specs.Parts.{PlannedBinary, coded_binary};
+    ghost use Rattle.px_answers.specs.Parts.{PlannedBinary, coded_binary};
 
     ghost Value = { PlannedBinary };
 
@@ -117,7 +119,7 @@ impl BinaryExpr {
 }
 
 impl PhysicalExpr for BinaryExpr {
-    ghost use Rattle.px_expr.specs.Parts.{binary_plan};
+    ghost use Rattle.px_answers.specs.Parts.{binary_plan};
 
     ghost planned = { binary_plan };
 
@@ -125,7 +127,7 @@ impl PhysicalExpr for BinaryExpr {
         Some(&self.expr)
     }
 
-    #[tactic(auto, using(crate::proofs::Operands::binary_value, crate::proofs::Operands::binary_cause, crate::proofs::Operands::left_cause, crate::proofs::Operands::right_cause, crate::proofs::Counts::binary_ticks, crate::proofs::Counts::binary_cost, crate::proofs::Counts::binary_cost_left, crate::proofs::Counts::binary_cost_right))]
+    #[tactic(auto, using(px_answers::proofs::Operands::binary_value, px_answers::proofs::Operands::binary_cause, px_answers::proofs::Operands::left_cause, px_answers::proofs::Operands::right_cause, px_answers::proofs::Counts::binary_ticks, px_answers::proofs::Counts::binary_cost, px_answers::proofs::Counts::binary_cost_left, px_answers::proofs::Counts::binary_cost_right))]
     #[cycle(evaluate)]
     fn evaluate<L: Ledger, M: Ledger>(
         &self,
@@ -138,6 +140,26 @@ impl PhysicalExpr for BinaryExpr {
         let left = evaluate_cell(alloc, &self.left, df, state, kernels, groupings)?;
         let right = evaluate_cell(alloc, &self.right, df, state, kernels, groupings)?;
         Ok(binary_cells(alloc, left, right, self.op, kernels)?.into_column())
+    }
+
+    #[tactic(auto, using(px_group_answers::proofs::Operands::left_group_cause, px_group_answers::proofs::Operands::right_group_cause, px_group_answers::proofs::Paired::two_paired))]
+    #[cycle(groups)]
+    fn evaluate_on_groups<'a, L: Ledger, M: Ledger>(
+        &self,
+        alloc: Global,
+        df: &'a DataFrame,
+        groups: &'a GroupPositions,
+        state: &mut ExecutionState,
+        kernels: &mut Steps<L>,
+        groupings: &mut Steps<M>,
+    ) -> Px<AggregationContext<'a>> {
+        let left = self
+            .left
+            .evaluate_on_groups(alloc, df, groups, state, kernels, groupings)?;
+        let right = self
+            .right
+            .evaluate_on_groups(alloc, df, groups, state, kernels, groupings)?;
+        binary_groups(alloc, left, right, self.op, kernels)
     }
 
     fn evaluate_inline(&self, alloc: Global) -> Px<Option<Column>> {

@@ -4,14 +4,16 @@ ghost use Rattle.px_column.specs.Prelude.{kind_of};
 ghost use Rattle.px_tree.specs.Tree.{cast};
 ghost use Rattle.px_tree.specs.View.{tree};
 ghost use Rattle.px_expr.specs.NodeView.{plan_of};
-ghost use Rattle.px_expr.specs.Parts.{cast_plan};
+ghost use Rattle.px_answers.specs.Parts.{cast_plan};
 
 use crate::inline::{inline_cast, inline_cell};
 use crate::phys_expr::{PhysExpr, evaluate_cell};
 use crate::physical::{PhysicalExpr, expression_field};
 use indexmap::IndexSet;
 use px_column::{CastOptions, Column, DataType, Name, Px, Steps};
-use px_frame::{DataFrame, Field, Schema};
+use px_context::AggregationContext;
+use px_frame::{DataFrame, Field, GroupPositions, Schema};
+use px_group_nodes::cast_groups;
 use px_nodes::cast_cells;
 use px_plan::Expr;
 use px_window::ExecutionState;
@@ -30,7 +32,7 @@ pub struct CastExpr {
 }
 
 impl Model for CastExpr {
-    ghost use Rattle.px_expr.specs.Parts.{PlannedCast, coded_cast};
+    ghost use Rattle.px_answers.specs.Parts.{PlannedCast, coded_cast};
 
     ghost Value = { PlannedCast };
 
@@ -98,7 +100,7 @@ impl CastExpr {
 }
 
 impl PhysicalExpr for CastExpr {
-    ghost use Rattle.px_expr.specs.Parts.{cast_plan};
+    ghost use Rattle.px_answers.specs.Parts.{cast_plan};
 
     ghost planned = { cast_plan };
 
@@ -106,7 +108,7 @@ impl PhysicalExpr for CastExpr {
         Some(&self.expr)
     }
 
-    #[tactic(auto, using(crate::proofs::Operands::cast_value, crate::proofs::Operands::cast_cause, crate::proofs::Operands::cast_input_cause, crate::proofs::Counts::cast_ticks, crate::proofs::Counts::cast_cost, crate::proofs::Counts::cast_cost_input))]
+    #[tactic(auto, using(px_answers::proofs::Operands::cast_value, px_answers::proofs::Operands::cast_cause, px_answers::proofs::Operands::cast_input_cause, px_answers::proofs::Counts::cast_ticks, px_answers::proofs::Counts::cast_cost, px_answers::proofs::Counts::cast_cost_input))]
     #[cycle(evaluate)]
     fn evaluate<L: Ledger, M: Ledger>(
         &self,
@@ -118,6 +120,23 @@ impl PhysicalExpr for CastExpr {
     ) -> Px<Column> {
         let input = evaluate_cell(alloc, &self.input, df, state, kernels, groupings)?;
         Ok(cast_cells(alloc, input, &self.dtype, self.options, kernels)?.into_column())
+    }
+
+    #[tactic(auto, using(px_group_answers::proofs::Operands::cast_group_cause))]
+    #[cycle(groups)]
+    fn evaluate_on_groups<'a, L: Ledger, M: Ledger>(
+        &self,
+        alloc: Global,
+        df: &'a DataFrame,
+        groups: &'a GroupPositions,
+        state: &mut ExecutionState,
+        kernels: &mut Steps<L>,
+        groupings: &mut Steps<M>,
+    ) -> Px<AggregationContext<'a>> {
+        let input = self
+            .input
+            .evaluate_on_groups(alloc, df, groups, state, kernels, groupings)?;
+        cast_groups(alloc, input, &self.dtype, self.options, kernels)
     }
 
     fn evaluate_inline(&self, alloc: Global) -> Px<Option<Column>> {

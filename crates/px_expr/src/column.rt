@@ -1,16 +1,17 @@
 //! The column of a name.
-ghost use Rattle.std.specs.Prelude.{◌≡◌, [], ◌∷◌, IfSome, Some, drop, option_map};
-ghost use Rattle.px_tree.specs.Shape.{is_literal_tree, name_of};
+ghost use Rattle.std.specs.Prelude.{◌≡◌, [], ◌∷◌, IfSome, Some, drop, length, option_map};
+ghost use Rattle.px_tree.specs.Shape.{has_implode, is_literal_tree, name_of};
 ghost use Rattle.px_tree.specs.Tree.{column};
 ghost use Rattle.px_tree.specs.View.{tree};
 ghost use Rattle.px_frame.specs.External.{alone};
-ghost use Rattle.px_frame.specs.Frame.{look};
-ghost use Rattle.px_expr.specs.Planned.{found_by, is_added, is_reserved};
+ghost use Rattle.px_frame.specs.Frame.{height_of, look};
+ghost use Rattle.px_answers.specs.Planned.{found_by, is_added, is_reserved};
 
 use crate::physical::PhysicalExpr;
 use indexmap::IndexSet;
 use px_column::{Column, Name, Px, PxError, Steps};
-use px_frame::{DataFrame, Field, Schema, SchemaRef};
+use px_context::{AggregationContext, ColRef, GroupsRef};
+use px_frame::{DataFrame, Field, GroupPositions, Schema, SchemaRef};
 use px_plan::Expr;
 use px_window::ExecutionState;
 use std::alloc::Global;
@@ -48,6 +49,7 @@ fn column_behind<'a>(columns: &'a [Column], places: usize, name: &Name) -> Optio
 pub fn found_column<'a>(df: &'a DataFrame, name: &Name, schema: &Schema) -> Option<&'a Column>
     ensures found { option_map (λ c. c.now) result ≡ found_by (record { name = name.now; schema = schema.now }) (alone df.now) }
     ensures column { IfSome result (λ c. look name.now df.now ≡ Some c.now) }
+    ensures height { IfSome result (λ c. length c.now.slots ≡ height_of df.now) }
 {
     if is_added(name, schema) {
         column_behind(df.get_columns(), schema.len(), name)
@@ -65,7 +67,7 @@ pub struct ColumnExpr {
 }
 
 impl Model for ColumnExpr {
-    ghost use Rattle.px_expr.specs.Planned.{Planned, coded_planned};
+    ghost use Rattle.px_answers.specs.Planned.{Planned, coded_planned};
 
     ghost Value = { Planned };
 
@@ -118,6 +120,14 @@ impl ColumnExpr {
         let _ = &self.expr;
         false
     }
+
+    /// Whether an Implode stands in it.
+    pub(crate) fn has_implode(&self) -> bool
+        ensures { result ≡ has_implode self.now.tree }
+    {
+        let _ = &self.expr;
+        false
+    }
 }
 
 impl PhysicalExpr for ColumnExpr {
@@ -137,6 +147,26 @@ impl PhysicalExpr for ColumnExpr {
     ) -> Px<Column> {
         match found_column(df, &self.name, &self.schema) {
             Some(column) => column.try_clone(alloc),
+            None => Err(PxError::ColumnNotFound(self.name.try_clone(alloc)?)),
+        }
+    }
+
+    #[tactic(auto, using(px_group_answers::proofs::GroupCounts::idle_cost, px_group_answers::proofs::GroupCounts::idle_ticks))]
+    fn evaluate_on_groups<'a, L: Ledger, M: Ledger>(
+        &self,
+        alloc: Global,
+        df: &'a DataFrame,
+        groups: &'a GroupPositions,
+        state: &mut ExecutionState,
+        kernels: &mut Steps<L>,
+        groupings: &mut Steps<M>,
+    ) -> Px<AggregationContext<'a>> {
+        match found_column(df, &self.name, &self.schema) {
+            Some(column) => {
+                let column = ColRef::Borrowed(column);
+                let groups = GroupsRef::Borrowed(groups);
+                Ok(AggregationContext::new(column, groups, false))
+            }
             None => Err(PxError::ColumnNotFound(self.name.try_clone(alloc)?)),
         }
     }

@@ -1,13 +1,14 @@
 //! The number of rows.
 ghost use Rattle.std.specs.Prelude.{◌≡◌, []};
-ghost use Rattle.px_tree.specs.Shape.{is_literal_tree};
+ghost use Rattle.px_tree.specs.Shape.{has_implode, is_literal_tree};
 ghost use Rattle.px_tree.specs.Tree.{len};
 ghost use Rattle.px_tree.specs.View.{tree};
 
 use crate::physical::PhysicalExpr;
 use indexmap::IndexSet;
 use px_column::{Column, DataType, Name, Px, Steps, Value};
-use px_frame::{DataFrame, Field, Schema};
+use px_context::{AggregationContext, ColRef, GroupsRef};
+use px_frame::{DataFrame, Field, GroupPositions, Schema};
 use px_plan::Expr;
 use px_window::ExecutionState;
 use std::alloc::Global;
@@ -21,7 +22,7 @@ pub struct CountExpr {
 }
 
 impl Model for CountExpr {
-    ghost use Rattle.px_expr.specs.Planned.{Planned, coded_planned};
+    ghost use Rattle.px_answers.specs.Planned.{Planned, coded_planned};
 
     ghost Value = { Planned };
 
@@ -61,6 +62,14 @@ impl CountExpr {
         let _ = &self.expr;
         false
     }
+
+    /// Whether an Implode stands in it.
+    pub(crate) fn has_implode(&self) -> bool
+        ensures { result ≡ has_implode self.now.tree }
+    {
+        let _ = &self.expr;
+        false
+    }
 }
 
 impl PhysicalExpr for CountExpr {
@@ -82,6 +91,25 @@ impl PhysicalExpr for CountExpr {
         let name = Name::new(alloc, "len")?;
         let height = Value::Int(df.height() as i128);
         Column::full(alloc, name, DataType::UInt32, height, 1)
+    }
+
+    #[tactic(auto, using(px_group_answers::proofs::GroupCounts::idle_cost, px_group_answers::proofs::GroupCounts::idle_ticks))]
+    fn evaluate_on_groups<'a, L: Ledger, M: Ledger>(
+        &self,
+        alloc: Global,
+        df: &'a DataFrame,
+        groups: &'a GroupPositions,
+        state: &mut ExecutionState,
+        kernels: &mut Steps<L>,
+        groupings: &mut Steps<M>,
+    ) -> Px<AggregationContext<'a>> {
+        let _ = &self.expr;
+        // The rows of each group are below the height.
+        let _ = groups.len();
+        let name = Name::new(alloc, "len")?;
+        let lengths = groups.group_count(alloc)?.with_name(name);
+        let column = ColRef::Owned(lengths);
+        Ok(AggregationContext::new(column, GroupsRef::Borrowed(groups), true))
     }
 
     fn evaluate_inline(&self, alloc: Global) -> Px<Option<Column>> {

@@ -3,13 +3,16 @@ ghost use Rattle.std.specs.Prelude.{◌≡◌};
 ghost use Rattle.px_tree.specs.Tree.{filter};
 ghost use Rattle.px_tree.specs.View.{tree};
 ghost use Rattle.px_expr.specs.NodeView.{plan_of};
-ghost use Rattle.px_expr.specs.Parts.{filter_plan};
+ghost use Rattle.px_answers.specs.Parts.{filter_plan};
 
+use crate::on_groups::accept_rows;
 use crate::phys_expr::{PhysExpr, evaluate_cell};
 use crate::physical::{PhysicalExpr, expression_field};
 use indexmap::IndexSet;
 use px_column::{Column, Name, Px, Steps};
-use px_frame::{DataFrame, Field, Schema};
+use px_context::AggregationContext;
+use px_frame::{DataFrame, Field, GroupPositions, Schema};
+use px_group_nodes::filter_groups;
 use px_nodes::filter_cells;
 use px_plan::Expr;
 use px_window::ExecutionState;
@@ -27,7 +30,7 @@ pub struct FilterExpr {
 }
 
 impl Model for FilterExpr {
-    ghost use Rattle.px_expr.specs.Parts.{PlannedFilter, coded_filter};
+    ghost use Rattle.px_answers.specs.Parts.{PlannedFilter, coded_filter};
 
     ghost Value = { PlannedFilter };
 
@@ -82,7 +85,7 @@ impl FilterExpr {
 }
 
 impl PhysicalExpr for FilterExpr {
-    ghost use Rattle.px_expr.specs.Parts.{filter_plan};
+    ghost use Rattle.px_answers.specs.Parts.{filter_plan};
 
     ghost planned = { filter_plan };
 
@@ -90,7 +93,7 @@ impl PhysicalExpr for FilterExpr {
         Some(&self.expr)
     }
 
-    #[tactic(auto, using(crate::proofs::Selections::filter_value, crate::proofs::Selections::filter_cause, crate::proofs::Selections::filter_input_cause, crate::proofs::Selections::mask_cause))]
+    #[tactic(auto, using(px_answers::proofs::Selections::filter_value, px_answers::proofs::Selections::filter_cause, px_answers::proofs::Selections::filter_input_cause, px_answers::proofs::Selections::mask_cause))]
     #[cycle(evaluate)]
     fn evaluate<L: Ledger, M: Ledger>(
         &self,
@@ -103,6 +106,27 @@ impl PhysicalExpr for FilterExpr {
         let input = evaluate_cell(alloc, &self.input, df, state, kernels, groupings)?;
         let by = evaluate_cell(alloc, &self.by, df, state, kernels, groupings)?;
         Ok(filter_cells(alloc, input, by, kernels)?.into_column())
+    }
+
+    #[tactic(auto, using(px_group_answers::proofs::Selections::filter_input_group_cause, px_group_answers::proofs::Selections::mask_group_cause, px_group_answers::proofs::Paired::two_paired))]
+    #[cycle(groups)]
+    fn evaluate_on_groups<'a, L: Ledger, M: Ledger>(
+        &self,
+        alloc: Global,
+        df: &'a DataFrame,
+        groups: &'a GroupPositions,
+        state: &mut ExecutionState,
+        kernels: &mut Steps<L>,
+        groupings: &mut Steps<M>,
+    ) -> Px<AggregationContext<'a>> {
+        let input = self
+            .input
+            .evaluate_on_groups(alloc, df, groups, state, kernels, groupings)?;
+        let by = self
+            .by
+            .evaluate_on_groups(alloc, df, groups, state, kernels, groupings)?;
+        accept_rows(&self.input)?;
+        filter_groups(alloc, input, by, kernels)
     }
 
     fn evaluate_inline(&self, alloc: Global) -> Px<Option<Column>> {

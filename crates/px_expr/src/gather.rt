@@ -4,13 +4,16 @@ ghost use Rattle.px_tree.specs.Shape.{is_unit};
 ghost use Rattle.px_tree.specs.Tree.{gather};
 ghost use Rattle.px_tree.specs.View.{tree};
 ghost use Rattle.px_expr.specs.NodeView.{plan_of};
-ghost use Rattle.px_expr.specs.Parts.{gather_plan};
+ghost use Rattle.px_answers.specs.Parts.{gather_plan};
 
+use crate::on_groups::accept_rows;
 use crate::phys_expr::{PhysExpr, evaluate_cell, has_literals_alone};
 use crate::physical::{PhysicalExpr, expression_field};
 use indexmap::IndexSet;
 use px_column::{Column, Name, Px, Steps};
-use px_frame::{DataFrame, Field, Schema};
+use px_context::AggregationContext;
+use px_frame::{DataFrame, Field, GroupPositions, Schema};
+use px_group_nodes::gather_groups;
 use px_nodes::gather_cells;
 use px_plan::Expr;
 use px_window::ExecutionState;
@@ -29,7 +32,7 @@ pub struct GatherExpr {
 }
 
 impl Model for GatherExpr {
-    ghost use Rattle.px_expr.specs.Parts.{PlannedGather, coded_gather};
+    ghost use Rattle.px_answers.specs.Parts.{PlannedGather, coded_gather};
 
     ghost Value = { PlannedGather };
 
@@ -102,7 +105,7 @@ impl GatherExpr {
 }
 
 impl PhysicalExpr for GatherExpr {
-    ghost use Rattle.px_expr.specs.Parts.{gather_plan};
+    ghost use Rattle.px_answers.specs.Parts.{gather_plan};
 
     ghost planned = { gather_plan };
 
@@ -110,7 +113,7 @@ impl PhysicalExpr for GatherExpr {
         Some(&self.expr)
     }
 
-    #[tactic(auto, using(crate::proofs::Selections::gather_value, crate::proofs::Selections::gather_cause, crate::proofs::Selections::gathered_cause, crate::proofs::Selections::index_cause))]
+    #[tactic(auto, using(px_answers::proofs::Selections::gather_value, px_answers::proofs::Selections::gather_cause, px_answers::proofs::Selections::gathered_cause, px_answers::proofs::Selections::index_cause))]
     #[cycle(evaluate)]
     fn evaluate<L: Ledger, M: Ledger>(
         &self,
@@ -125,6 +128,28 @@ impl PhysicalExpr for GatherExpr {
         let is_literal = has_literals_alone(&self.idx);
         let rows = gather_cells(alloc, input, idx, self.returns_scalar, is_literal, kernels)?;
         Ok(rows.into_column())
+    }
+
+    #[tactic(auto, using(px_group_answers::proofs::Selections::gathered_group_cause, px_group_answers::proofs::Selections::index_group_cause, px_group_answers::proofs::Paired::two_paired))]
+    #[cycle(groups)]
+    fn evaluate_on_groups<'a, L: Ledger, M: Ledger>(
+        &self,
+        alloc: Global,
+        df: &'a DataFrame,
+        groups: &'a GroupPositions,
+        state: &mut ExecutionState,
+        kernels: &mut Steps<L>,
+        groupings: &mut Steps<M>,
+    ) -> Px<AggregationContext<'a>> {
+        let input = self
+            .phys_expr
+            .evaluate_on_groups(alloc, df, groups, state, kernels, groupings)?;
+        let idx = self
+            .idx
+            .evaluate_on_groups(alloc, df, groups, state, kernels, groupings)?;
+        accept_rows(&self.phys_expr)?;
+        let is_literal = has_literals_alone(&self.idx);
+        gather_groups(alloc, input, idx, self.returns_scalar, is_literal, kernels)
     }
 
     fn evaluate_inline(&self, alloc: Global) -> Px<Option<Column>> {

@@ -5,7 +5,7 @@ ghost use Rattle.px_value.specs.declared.error.PxError.{PxError};
 ghost use Rattle.px_frame.specs.CellView.{named_cell};
 ghost use Rattle.px_frame.specs.Spread.{NamedCell};
 ghost use Rattle.px_nodes.specs.Named.{cast_named, function_named};
-ghost use Rattle.px_expr.specs.Inline.{AreInlineCells, IsInlineCell, column_or_none};
+ghost use Rattle.px_answers.specs.Inline.{AreInlineCells, IsInlineCell, column_or_none};
 ghost use Rattle.px_expr.specs.NodeView.{plan_of};
 
 use crate::phys_expr::PhysExpr;

@@ -14,6 +14,7 @@ mod filter;
 mod gather;
 mod inline;
 mod literal;
+mod on_groups;
 mod phys_expr;
 mod physical;
 mod planner;

@@ -2,16 +2,18 @@
 ghost use Rattle.std.specs.Prelude.{◌≡◌, [], Ok, Some, true};
 ghost use Rattle.px_tree.specs.View.{tree};
 ghost use Rattle.px_column.specs.Prelude.{Answers, fits, kind_of, datum_of};
-ghost use Rattle.px_tree.specs.Shape.{is_literal_tree};
+ghost use Rattle.px_tree.specs.Shape.{has_implode, is_literal_tree};
 ghost use Rattle.px_tree.specs.Tree.{literal, single};
 ghost use Rattle.px_tree.specs.View.{literal_of};
-ghost use Rattle.px_expr.specs.Literal.{kept_column, literal_column};
+ghost use Rattle.px_answers.specs.Literal.{kept_column, literal_column};
+ghost use Rattle.px_group_answers.specs.Leaf.{group_literal_column};
 
 use crate::physical::{PhysicalExpr, expression_field};
 use crate::range::range_column;
 use indexmap::IndexSet;
 use px_column::{ByteString, Column, DataType, Name, Px, PxError, Steps, Value};
-use px_frame::{DataFrame, Field, Schema};
+use px_context::{AggregationContext, ColRef, GroupsRef};
+use px_frame::{DataFrame, Field, GroupPositions, Schema};
 use px_plan::{Expr, LiteralValue};
 use px_window::ExecutionState;
 use std::alloc::Global;
@@ -71,6 +73,17 @@ pub fn literal_column(alloc: Global, value: &LiteralValue) -> Px<Column>
     }
 }
 
+/// The column of a literal on so many groups: without one a range has no integers, so that it is refused
+/// for its type alone.
+fn group_literal_column(alloc: Global, value: &LiteralValue, groups: u32) -> Px<Column>
+    ensures { Answers result (group_literal_column (literal_of value.now) groups) }
+{
+    match value {
+        LiteralValue::Range { dtype, .. } if groups == 0 => range_column(alloc, 0, 0, dtype),
+        _ => literal_column(alloc, value),
+    }
+}
+
 /// A literal (polars `LiteralExpr`).
 #[derive(Drop)]
 pub struct LiteralExpr {
@@ -79,7 +92,7 @@ pub struct LiteralExpr {
 }
 
 impl Model for LiteralExpr {
-    ghost use Rattle.px_expr.specs.Planned.{Planned, coded_planned};
+    ghost use Rattle.px_answers.specs.Planned.{Planned, coded_planned};
 
     ghost Value = { Planned };
 
@@ -126,6 +139,14 @@ impl LiteralExpr {
         let _ = &self.expr;
         true
     }
+
+    /// Whether an Implode stands in it.
+    pub(crate) fn has_implode(&self) -> bool
+        ensures { result ≡ has_implode self.now.tree }
+    {
+        let _ = &self.expr;
+        false
+    }
 }
 
 impl PhysicalExpr for LiteralExpr {
@@ -145,6 +166,23 @@ impl PhysicalExpr for LiteralExpr {
     ) -> Px<Column> {
         let _ = &self.expr;
         literal_column(alloc, &self.value)
+    }
+
+    #[tactic(auto, using(px_group_answers::proofs::GroupCounts::idle_cost, px_group_answers::proofs::GroupCounts::idle_ticks))]
+    fn evaluate_on_groups<'a, L: Ledger, M: Ledger>(
+        &self,
+        alloc: Global,
+        df: &'a DataFrame,
+        groups: &'a GroupPositions,
+        state: &mut ExecutionState,
+        kernels: &mut Steps<L>,
+        groupings: &mut Steps<M>,
+    ) -> Px<AggregationContext<'a>> {
+        let _ = &self.expr;
+        let values = group_literal_column(alloc, &self.value, groups.len())?;
+        let column = ColRef::Owned(values);
+        let groups = GroupsRef::Borrowed(groups);
+        Ok(AggregationContext::from_literal(column, groups, self.value.is_single()))
     }
 
     fn evaluate_inline(&self, alloc: Global) -> Px<Option<Column>> {

@@ -4,11 +4,11 @@ ghost use Rattle.px_column.specs.Prelude.{Answers};
 ghost use Rattle.px_frame.specs.CellView.{named_cell};
 ghost use Rattle.px_frame.specs.External.{alone};
 ghost use Rattle.px_tree.specs.Shape.{is_literal_tree, are_literal_trees};
-ghost use Rattle.px_expr.specs.Counted.{RunAllAtLeast, RunAllAtMost, RunAllExactly, RunAtMost, RunExactly};
-ghost use Rattle.px_expr.specs.Live.{all_live_names, added, AddsFront};
+ghost use Rattle.px_answers.specs.Counted.{RunAllAtLeast, RunAllAtMost, RunAllExactly, RunAtMost, RunExactly};
+ghost use Rattle.px_answers.specs.Live.{all_live_names, added, AddsFront};
 ghost use Rattle.px_expr.specs.NodeView.{plan_of};
-ghost use Rattle.px_expr.specs.Parts.{plan_trees};
-ghost use Rattle.px_expr.specs.Value.{AreCellsOf, IsCause, IsCauseOfAny, IsCellOf};
+ghost use Rattle.px_answers.specs.Parts.{plan_trees};
+ghost use Rattle.px_answers.specs.Value.{AreCellsOf, IsCause, IsCauseOfAny, IsCellOf};
 
 use crate::aggregation::AggregationExpr;
 use crate::alias::AliasExpr;
@@ -27,7 +27,8 @@ use crate::sort_by::SortByExpr;
 use crate::ternary::TernaryExpr;
 use indexmap::IndexSet;
 use px_column::{Column, Name, Px, Steps};
-use px_frame::{Cell, DataFrame, Field, Schema};
+use px_context::AggregationContext;
+use px_frame::{Cell, DataFrame, Field, GroupPositions, Schema};
 use px_plan::Expr;
 use px_window::ExecutionState;
 use std::alloc::Global;
@@ -115,6 +116,62 @@ impl PhysicalExpr for PhysExpr {
             PhysExpr::SortBy(node) => node.evaluate(alloc, df, state, kernels, groupings),
             PhysExpr::Aggregation(node) => node.evaluate(alloc, df, state, kernels, groupings),
             PhysExpr::Count(node) => node.evaluate(alloc, df, state, kernels, groupings),
+        }
+    }
+
+    #[cycle(groups)]
+    fn evaluate_on_groups<'a, L: Ledger, M: Ledger>(
+        &self,
+        alloc: Global,
+        df: &'a DataFrame,
+        groups: &'a GroupPositions,
+        state: &mut ExecutionState,
+        kernels: &mut Steps<L>,
+        groupings: &mut Steps<M>,
+    ) -> Px<AggregationContext<'a>> {
+        match self {
+            PhysExpr::Column(node) => {
+                node.evaluate_on_groups(alloc, df, groups, state, kernels, groupings)
+            }
+            PhysExpr::Literal(node) => {
+                node.evaluate_on_groups(alloc, df, groups, state, kernels, groupings)
+            }
+            PhysExpr::Alias(node) => {
+                node.evaluate_on_groups(alloc, df, groups, state, kernels, groupings)
+            }
+            PhysExpr::Binary(node) => {
+                node.evaluate_on_groups(alloc, df, groups, state, kernels, groupings)
+            }
+            PhysExpr::Ternary(node) => {
+                node.evaluate_on_groups(alloc, df, groups, state, kernels, groupings)
+            }
+            PhysExpr::Cast(node) => {
+                node.evaluate_on_groups(alloc, df, groups, state, kernels, groupings)
+            }
+            PhysExpr::Apply(node) => {
+                node.evaluate_on_groups(alloc, df, groups, state, kernels, groupings)
+            }
+            PhysExpr::Filter(node) => {
+                node.evaluate_on_groups(alloc, df, groups, state, kernels, groupings)
+            }
+            PhysExpr::Slice(node) => {
+                node.evaluate_on_groups(alloc, df, groups, state, kernels, groupings)
+            }
+            PhysExpr::Gather(node) => {
+                node.evaluate_on_groups(alloc, df, groups, state, kernels, groupings)
+            }
+            PhysExpr::Sort(node) => {
+                node.evaluate_on_groups(alloc, df, groups, state, kernels, groupings)
+            }
+            PhysExpr::SortBy(node) => {
+                node.evaluate_on_groups(alloc, df, groups, state, kernels, groupings)
+            }
+            PhysExpr::Aggregation(node) => {
+                node.evaluate_on_groups(alloc, df, groups, state, kernels, groupings)
+            }
+            PhysExpr::Count(node) => {
+                node.evaluate_on_groups(alloc, df, groups, state, kernels, groupings)
+            }
         }
     }
 
@@ -244,7 +301,7 @@ impl PhysicalExpr for PhysExpr {
 
 /// A node's value on a frame as a cell: a unit where the node has one value, and else its rows.
 /// Errors and counters are those of `evaluate`.
-#[tactic(auto, using(crate::proofs::Cells::value_is_cell))]
+#[tactic(auto, using(px_answers::proofs::Cells::value_is_cell))]
 #[cycle(evaluate)]
 pub fn evaluate_cell<L: Ledger, M: Ledger>(
     alloc: Global,

@@ -1,19 +1,23 @@
 //! What each node offers.
-ghost use Rattle.std.specs.Prelude.{◌≡◌, Ok, IfOk, IfErr, OnOk, OnErr, option_map};
+ghost use Rattle.std.specs.Prelude.{◌≡◌, length, Ok, IfOk, IfErr, OnOk, OnErr, option_map};
 ghost use Rattle.px_column.specs.Prelude.{AnswersBy, Answers};
 ghost use Rattle.px_frame.specs.External.{alone};
+ghost use Rattle.px_frame.specs.Frame.{height_of};
 ghost use Rattle.px_frame.specs.SchemaView.{field_kind};
 ghost use Rattle.px_tree.specs.Shape.{is_unit};
 ghost use Rattle.px_tree.specs.View.{tree};
-ghost use Rattle.px_expr.specs.Counted.{RunAtMost, RunExactly};
-ghost use Rattle.px_expr.specs.Inline.{IsInline};
-ghost use Rattle.px_expr.specs.Live.{expression_of, field_on, is_literal_node, is_partitioned, live_names, added, AddsFront};
-ghost use Rattle.px_expr.specs.Planned.{Planned};
-ghost use Rattle.px_expr.specs.Value.{IsValue, IsCause};
+ghost use Rattle.px_answers.specs.Counted.{RunAtMost, RunExactly};
+ghost use Rattle.px_answers.specs.Inline.{IsInline};
+ghost use Rattle.px_answers.specs.Live.{expression_of, field_on, is_literal_node, is_partitioned, live_names, added, AddsFront};
+ghost use Rattle.px_answers.specs.Planned.{Planned};
+ghost use Rattle.px_answers.specs.Value.{IsValue, IsCause};
+ghost use Rattle.px_group_answers.specs.Counted.{RunOnGroups};
+ghost use Rattle.px_group_answers.specs.OnGroups.{IsContextOf, IsGroupCause};
 
 use indexmap::IndexSet;
 use px_column::{Column, Name, Px, Steps};
-use px_frame::{DataFrame, Field, Schema};
+use px_context::AggregationContext;
+use px_frame::{DataFrame, Field, GroupPositions, Schema};
 use px_plan::{Context, Expr, output_name, type_of};
 use px_window::ExecutionState;
 use std::alloc::Global;
@@ -45,6 +49,28 @@ pub trait PhysicalExpr {
         ensures grouped { groupings.new ≡ groupings.old }
         ensures ticks { OnOk result (RunExactly (planned self.now).tree kernels.old kernels.new) }
         ensures cost { RunAtMost (planned self.now).tree (alone df.now) kernels.old kernels.new };
+
+    /// The value on the frame of each group's rows, as a context with a cell for each group; `groups` have
+    /// the frame's height. What is refused on groups, missing, or a fault of some group is told by its
+    /// error; `TooLong` comes only where the expression, or one in it, has 2^32 values or more over all
+    /// groups together. `kernels` rises by one for each kernel that runs: where the expression is flat,
+    /// exactly once a node that has one, else at most once a node for each group and once more.
+    fn evaluate_on_groups<'a, L: Ledger, M: Ledger>(
+        &self,
+        alloc: Global,
+        df: &'a DataFrame,
+        groups: &'a GroupPositions,
+        state: &mut ExecutionState,
+        kernels: &mut Steps<L>,
+        groupings: &mut Steps<M>,
+    ) -> Px<AggregationContext<'a>>
+        requires { groups.now.height ≡ height_of df.now }
+        ensures context { IfOk result (IsContextOf (planned self.now) (alone df.now) groups.now) }
+        ensures causes { IfErr result (λ e. IsGroupCause e (planned self.now) (alone df.now) groups.now) }
+        ensures frame { state.new ≡ state.old }
+        ensures grouped { groupings.new ≡ groupings.old }
+        ensures ticks { OnOk result (RunExactly (planned self.now).tree kernels.old kernels.new) }
+        ensures cost { RunOnGroups (planned self.now).tree (length groups.now.groups) kernels.old kernels.new };
 
     /// The value without a frame, where there is one: that of a literal which is no range, under at most
     /// four aliases, casts and functions. What is cast, or a function's input, has one row. None for any

@@ -3,7 +3,7 @@ ghost use Rattle.std.specs.Prelude.{◌≡◌, ◌^◌, ◌+ℤ◌, ◌-ℤ◌, 
 ghost use Rattle.std.specs.List.{range_with_len};
 ghost use Rattle.px_column.specs.Prelude.{Answers, AnswersBy, integer, fits, kind_of, slot_of, slots_of};
 ghost use Rattle.px_tree.specs.Node.{natural};
-ghost use Rattle.px_expr.specs.Literal.{range_column};
+ghost use Rattle.px_answers.specs.Literal.{range_column};
 
 use px_column::{Column, ComputeWhy, DataType, InvalidWhy, Name, Px, PxError, Value};
 use px_plan::is_range_type;

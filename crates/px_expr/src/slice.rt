@@ -3,13 +3,16 @@ ghost use Rattle.std.specs.Prelude.{◌≡◌};
 ghost use Rattle.px_tree.specs.Tree.{slice};
 ghost use Rattle.px_tree.specs.View.{tree};
 ghost use Rattle.px_expr.specs.NodeView.{plan_of};
-ghost use Rattle.px_expr.specs.Parts.{slice_plan};
+ghost use Rattle.px_answers.specs.Parts.{slice_plan};
 
+use crate::on_groups::accept_slice;
 use crate::phys_expr::{PhysExpr, evaluate_cell};
 use crate::physical::{PhysicalExpr, expression_field};
 use indexmap::IndexSet;
 use px_column::{Column, Name, Px, Steps};
-use px_frame::{DataFrame, Field, Schema};
+use px_context::AggregationContext;
+use px_frame::{DataFrame, Field, GroupPositions, Schema};
+use px_group_nodes::slice_groups;
 use px_nodes::slice_cells;
 use px_plan::Expr;
 use px_window::ExecutionState;
@@ -28,7 +31,7 @@ pub struct SliceExpr {
 }
 
 impl Model for SliceExpr {
-    ghost use Rattle.px_expr.specs.Parts.{PlannedSlice, coded_slice};
+    ghost use Rattle.px_answers.specs.Parts.{PlannedSlice, coded_slice};
 
     ghost Value = { PlannedSlice };
 
@@ -100,7 +103,7 @@ impl SliceExpr {
 }
 
 impl PhysicalExpr for SliceExpr {
-    ghost use Rattle.px_expr.specs.Parts.{slice_plan};
+    ghost use Rattle.px_answers.specs.Parts.{slice_plan};
 
     ghost planned = { slice_plan };
 
@@ -108,7 +111,7 @@ impl PhysicalExpr for SliceExpr {
         Some(&self.expr)
     }
 
-    #[tactic(auto, using(crate::proofs::Selections::slice_value, crate::proofs::Selections::slice_cause, crate::proofs::Selections::slice_input_cause, crate::proofs::Selections::offset_cause, crate::proofs::Selections::length_cause))]
+    #[tactic(auto, using(px_answers::proofs::Selections::slice_value, px_answers::proofs::Selections::slice_cause, px_answers::proofs::Selections::slice_input_cause, px_answers::proofs::Selections::offset_cause, px_answers::proofs::Selections::length_cause))]
     #[cycle(evaluate)]
     fn evaluate<L: Ledger, M: Ledger>(
         &self,
@@ -122,6 +125,30 @@ impl PhysicalExpr for SliceExpr {
         let offset = evaluate_cell(alloc, &self.offset, df, state, kernels, groupings)?;
         let length = evaluate_cell(alloc, &self.length, df, state, kernels, groupings)?;
         Ok(slice_cells(alloc, input, offset, length, kernels)?.into_column())
+    }
+
+    #[tactic(auto, using(px_group_answers::proofs::Selections::slice_input_group_cause, px_group_answers::proofs::Selections::offset_group_cause, px_group_answers::proofs::Selections::length_group_cause, px_group_answers::proofs::Paired::three_paired))]
+    #[cycle(groups)]
+    fn evaluate_on_groups<'a, L: Ledger, M: Ledger>(
+        &self,
+        alloc: Global,
+        df: &'a DataFrame,
+        groups: &'a GroupPositions,
+        state: &mut ExecutionState,
+        kernels: &mut Steps<L>,
+        groupings: &mut Steps<M>,
+    ) -> Px<AggregationContext<'a>> {
+        let input = self
+            .input
+            .evaluate_on_groups(alloc, df, groups, state, kernels, groupings)?;
+        let offset = self
+            .offset
+            .evaluate_on_groups(alloc, df, groups, state, kernels, groupings)?;
+        let length = self
+            .length
+            .evaluate_on_groups(alloc, df, groups, state, kernels, groupings)?;
+        accept_slice(&self.input, &self.offset, &self.length)?;
+        slice_groups(alloc, input, offset, length, kernels)
     }
 
     fn evaluate_inline(&self, alloc: Global) -> Px<Option<Column>> {

@@ -3,13 +3,16 @@ ghost use Rattle.std.specs.Prelude.{◌≡◌};
 ghost use Rattle.px_tree.specs.Tree.{sort};
 ghost use Rattle.px_tree.specs.View.{tree};
 ghost use Rattle.px_expr.specs.NodeView.{plan_of};
-ghost use Rattle.px_expr.specs.Parts.{sort_plan};
+ghost use Rattle.px_answers.specs.Parts.{sort_plan};
 
+use crate::on_groups::accept_rows;
 use crate::phys_expr::{PhysExpr, evaluate_cell};
 use crate::physical::{PhysicalExpr, expression_field};
 use indexmap::IndexSet;
 use px_column::{Column, Name, Px, SortOptions, Steps};
-use px_frame::{DataFrame, Field, Schema};
+use px_context::AggregationContext;
+use px_frame::{DataFrame, Field, GroupPositions, Schema};
+use px_group_nodes::sort_groups_cells;
 use px_nodes::sort_cells;
 use px_plan::Expr;
 use px_window::ExecutionState;
@@ -27,7 +30,7 @@ pub struct SortExpr {
 }
 
 impl Model for SortExpr {
-    ghost use Rattle.px_expr.specs.Parts.{PlannedSort, coded_sort};
+    ghost use Rattle.px_answers.specs.Parts.{PlannedSort, coded_sort};
 
     ghost Value = { PlannedSort };
 
@@ -86,7 +89,7 @@ impl SortExpr {
 }
 
 impl PhysicalExpr for SortExpr {
-    ghost use Rattle.px_expr.specs.Parts.{sort_plan};
+    ghost use Rattle.px_answers.specs.Parts.{sort_plan};
 
     ghost planned = { sort_plan };
 
@@ -94,7 +97,7 @@ impl PhysicalExpr for SortExpr {
         Some(&self.expr)
     }
 
-    #[tactic(auto, using(crate::proofs::Selections::sort_value, crate::proofs::Selections::sort_cause, crate::proofs::Selections::sorted_cause))]
+    #[tactic(auto, using(px_answers::proofs::Selections::sort_value, px_answers::proofs::Selections::sort_cause, px_answers::proofs::Selections::sorted_cause))]
     #[cycle(evaluate)]
     fn evaluate<L: Ledger, M: Ledger>(
         &self,
@@ -106,6 +109,24 @@ impl PhysicalExpr for SortExpr {
     ) -> Px<Column> {
         let input = evaluate_cell(alloc, &self.physical_expr, df, state, kernels, groupings)?;
         Ok(sort_cells(alloc, input, self.options, kernels)?.into_column())
+    }
+
+    #[tactic(auto, using(px_group_answers::proofs::Selections::sorted_group_cause))]
+    #[cycle(groups)]
+    fn evaluate_on_groups<'a, L: Ledger, M: Ledger>(
+        &self,
+        alloc: Global,
+        df: &'a DataFrame,
+        groups: &'a GroupPositions,
+        state: &mut ExecutionState,
+        kernels: &mut Steps<L>,
+        groupings: &mut Steps<M>,
+    ) -> Px<AggregationContext<'a>> {
+        let input = self
+            .physical_expr
+            .evaluate_on_groups(alloc, df, groups, state, kernels, groupings)?;
+        accept_rows(&self.physical_expr)?;
+        sort_groups_cells(alloc, input, self.options, kernels)
     }
 
     fn evaluate_inline(&self, alloc: Global) -> Px<Option<Column>> {

@@ -1,18 +1,21 @@
 //! Rows in the order of others.
 ghost use Rattle.std.specs.Prelude.{◌≡◌, map};
-ghost use Rattle.px_tree.specs.Shape.{is_literal_tree};
+ghost use Rattle.px_tree.specs.Shape.{has_implode, is_literal_tree};
 ghost use Rattle.px_tree.specs.Tree.{sort_by};
 ghost use Rattle.px_tree.specs.View.{tree};
 ghost use Rattle.px_expr.specs.NodeView.{plan_of};
-ghost use Rattle.px_expr.specs.Parts.{sort_by_plan, plan_trees};
+ghost use Rattle.px_answers.specs.Parts.{sort_by_plan, plan_trees};
 
+use crate::on_groups::{accept_rows, contexts_on_groups, has_implode, have_implode};
 use crate::phys_expr::{
     PhysExpr, collect_all, evaluate_cell, evaluate_cells, has_literals_alone, have_literals_alone,
 };
 use crate::physical::{PhysicalExpr, expression_field};
 use indexmap::IndexSet;
 use px_column::{Column, Name, Px, SortMultipleOptions, Steps};
-use px_frame::{DataFrame, Field, Schema};
+use px_context::AggregationContext;
+use px_frame::{DataFrame, Field, GroupPositions, Schema};
+use px_group_nodes::sort_by_groups;
 use px_nodes::sort_by_cells;
 use px_plan::Expr;
 use px_window::ExecutionState;
@@ -31,7 +34,7 @@ pub struct SortByExpr {
 }
 
 impl Model for SortByExpr {
-    ghost use Rattle.px_expr.specs.Parts.{PlannedSortBy, coded_sort_by};
+    ghost use Rattle.px_answers.specs.Parts.{PlannedSortBy, coded_sort_by};
 
     ghost Value = { PlannedSortBy };
 
@@ -41,7 +44,7 @@ impl Model for SortByExpr {
     ghost use Rattle.px_tree.specs.Tree.{sort_by};
     ghost use Rattle.px_tree.specs.View.{tree};
     ghost use Rattle.px_expr.specs.NodeView.{plan_of};
-    ghost use Rattle.px_expr.specs.Parts.{plan_trees};
+    ghost use Rattle.px_answers.specs.Parts.{plan_trees};
     ghost use Rattle.px_expr.specs.Size.{sort_by_size};
 
     ghost view = { λ a. record { input = plan_of a.input.value; by = map plan_of a.by.items; sort_options = a.sort_options } };
@@ -110,10 +113,18 @@ impl SortByExpr {
     {
         has_literals_alone(&self.input) && have_literals_alone(&self.by)
     }
+
+    /// Whether an Implode stands in its inputs.
+    #[cycle(implode)]
+    pub(crate) fn has_implode(&self) -> bool
+        ensures { result ≡ has_implode (sort_by_plan self.now).tree }
+    {
+        has_implode(&self.input) || have_implode(&self.by)
+    }
 }
 
 impl PhysicalExpr for SortByExpr {
-    ghost use Rattle.px_expr.specs.Parts.{sort_by_plan};
+    ghost use Rattle.px_answers.specs.Parts.{sort_by_plan};
 
     ghost planned = { sort_by_plan };
 
@@ -122,7 +133,7 @@ impl PhysicalExpr for SortByExpr {
     }
 
     #[cycle(evaluate)]
-    #[tactic(auto, using(crate::proofs::SortedBy::sort_by_value, crate::proofs::SortedBy::sort_by_refusal, crate::proofs::SortedBy::sort_by_input_cause, crate::proofs::SortedBy::sort_by_key_cause, crate::proofs::CellsInOrder::sort_by_ticks, crate::proofs::CellsInOrder::sort_by_cost))]
+    #[tactic(auto, using(px_answers::proofs::SortedBy::sort_by_value, px_answers::proofs::SortedBy::sort_by_refusal, px_answers::proofs::SortedBy::sort_by_input_cause, px_answers::proofs::SortedBy::sort_by_key_cause, crate::proofs::CellsInOrder::sort_by_ticks, crate::proofs::CellsInOrder::sort_by_cost))]
     fn evaluate<L: Ledger, M: Ledger>(
         &self,
         alloc: Global,
@@ -134,6 +145,24 @@ impl PhysicalExpr for SortByExpr {
         let by = evaluate_cells(alloc, &self.by, df, state, kernels, groupings)?;
         let input = evaluate_cell(alloc, &self.input, df, state, kernels, groupings)?;
         Ok(sort_by_cells(alloc, input, by, &self.sort_options, kernels)?.into_column())
+    }
+
+    #[cycle(groups)]
+    fn evaluate_on_groups<'a, L: Ledger, M: Ledger>(
+        &self,
+        alloc: Global,
+        df: &'a DataFrame,
+        groups: &'a GroupPositions,
+        state: &mut ExecutionState,
+        kernels: &mut Steps<L>,
+        groupings: &mut Steps<M>,
+    ) -> Px<AggregationContext<'a>> {
+        let by = contexts_on_groups(alloc, &self.by, df, groups, state, kernels, groupings)?;
+        let input = self
+            .input
+            .evaluate_on_groups(alloc, df, groups, state, kernels, groupings)?;
+        accept_rows(&self.input)?;
+        sort_by_groups(alloc, input, by, &self.sort_options, kernels)
     }
 
     fn evaluate_inline(&self, alloc: Global) -> Px<Option<Column>> {

@@ -4,13 +4,15 @@ ghost use Rattle.px_tree.specs.Shape.{is_unit};
 ghost use Rattle.px_tree.specs.Tree.{ternary};
 ghost use Rattle.px_tree.specs.View.{tree};
 ghost use Rattle.px_expr.specs.NodeView.{plan_of};
-ghost use Rattle.px_expr.specs.Parts.{ternary_plan};
+ghost use Rattle.px_answers.specs.Parts.{ternary_plan};
 
 use crate::phys_expr::{PhysExpr, evaluate_cell};
 use crate::physical::{PhysicalExpr, expression_field};
 use indexmap::IndexSet;
 use px_column::{Column, Name, Px, Steps};
-use px_frame::{DataFrame, Field, Schema};
+use px_context::AggregationContext;
+use px_frame::{DataFrame, Field, GroupPositions, Schema};
+use px_group_nodes::ternary_groups;
 use px_nodes::ternary_cells;
 use px_plan::Expr;
 use px_window::ExecutionState;
@@ -30,7 +32,7 @@ pub struct TernaryExpr {
 }
 
 impl Model for TernaryExpr {
-    ghost use Rattle.px_expr.specs.Parts.{PlannedTernary, coded_ternary};
+    ghost use Rattle.px_answers.specs.Parts.{PlannedTernary, coded_ternary};
 
     ghost Value = { PlannedTernary };
 
@@ -114,7 +116,7 @@ impl TernaryExpr {
 }
 
 impl PhysicalExpr for TernaryExpr {
-    ghost use Rattle.px_expr.specs.Parts.{ternary_plan};
+    ghost use Rattle.px_answers.specs.Parts.{ternary_plan};
 
     ghost planned = { ternary_plan };
 
@@ -122,7 +124,7 @@ impl PhysicalExpr for TernaryExpr {
         Some(&self.expr)
     }
 
-    #[tactic(auto, using(crate::proofs::Operands::ternary_value, crate::proofs::Operands::ternary_cause, crate::proofs::Operands::predicate_cause, crate::proofs::Operands::truthy_cause, crate::proofs::Operands::falsy_cause, crate::proofs::Counts::ternary_ticks, crate::proofs::Counts::ternary_cost, crate::proofs::Counts::ternary_cost_one, crate::proofs::Counts::ternary_cost_two, crate::proofs::Counts::ternary_cost_three))]
+    #[tactic(auto, using(px_answers::proofs::Operands::ternary_value, px_answers::proofs::Operands::ternary_cause, px_answers::proofs::Operands::predicate_cause, px_answers::proofs::Operands::truthy_cause, px_answers::proofs::Operands::falsy_cause, px_answers::proofs::Counts::ternary_ticks, px_answers::proofs::Counts::ternary_cost, px_answers::proofs::Counts::ternary_cost_one, px_answers::proofs::Counts::ternary_cost_two, px_answers::proofs::Counts::ternary_cost_three))]
     #[cycle(evaluate)]
     fn evaluate<L: Ledger, M: Ledger>(
         &self,
@@ -136,6 +138,29 @@ impl PhysicalExpr for TernaryExpr {
         let truthy = evaluate_cell(alloc, &self.truthy, df, state, kernels, groupings)?;
         let falsy = evaluate_cell(alloc, &self.falsy, df, state, kernels, groupings)?;
         Ok(ternary_cells(alloc, predicate, truthy, falsy, kernels)?.into_column())
+    }
+
+    #[tactic(auto, using(px_group_answers::proofs::Operands::predicate_group_cause, px_group_answers::proofs::Operands::truthy_group_cause, px_group_answers::proofs::Operands::falsy_group_cause, px_group_answers::proofs::Paired::three_paired))]
+    #[cycle(groups)]
+    fn evaluate_on_groups<'a, L: Ledger, M: Ledger>(
+        &self,
+        alloc: Global,
+        df: &'a DataFrame,
+        groups: &'a GroupPositions,
+        state: &mut ExecutionState,
+        kernels: &mut Steps<L>,
+        groupings: &mut Steps<M>,
+    ) -> Px<AggregationContext<'a>> {
+        let predicate = self
+            .predicate
+            .evaluate_on_groups(alloc, df, groups, state, kernels, groupings)?;
+        let truthy = self
+            .truthy
+            .evaluate_on_groups(alloc, df, groups, state, kernels, groupings)?;
+        let falsy = self
+            .falsy
+            .evaluate_on_groups(alloc, df, groups, state, kernels, groupings)?;
+        ternary_groups(alloc, predicate, truthy, falsy, kernels)
     }
 
     fn evaluate_inline(&self, alloc: Global) -> Px<Option<Column>> {

@@ -1,1 +1,2 @@
 pub mod StepFaults
+pub mod OnGroups

@@ -1,17 +1,14 @@
 -- The columns of a group step: their names, their lengths, and the frame that they make.
-use Rattle.std.proofs.Common.{◌≡◌, ℕ, ◌<◌, Bool, true, false, not, ◌&&◌, ◌||◌, List, [], ◌∷◌, ◌++◌, Option, Some, None, Ok, Err, length, map, refl, sym, ◌∙◌, ap, arith, subst, option_map, option_and_then, if◌then◌else◌}
+use Rattle.std.proofs.Common.{◌≡◌, ℕ, ◌<◌, Bool, true, false, not, ◌&&◌, ◌||◌, List, [], ◌∷◌, Option, Some, None, Ok, Err, length, map, refl, ◌∙◌, ap, arith, option_and_then, if◌then◌else◌}
 use Rattle.std.specs.List.{list_all, list_any}
-use Rattle.std.proofs.lemmas.Bool.Decides.{nat_tests}
 use Rattle.std.proofs.lemmas.List.{length-map}
 use Rattle.px_column.specs.Prelude.{Series, slot_at}
 use Rattle.px_value.specs.declared.error.PxError.TheVariants.{ShapeMismatch, InvalidOperation}
 use Rattle.px_value.specs.declared.error.InvalidWhy.TheVariants.{ListKey}
 use Rattle.px_frame.specs.Aggregate.{key_column}
-use Rattle.px_frame.specs.Frame.{names_of, height_of, has_height, all_have_height, is_even}
+use Rattle.px_frame.specs.Frame.{names_of, height_of, has_height, all_have_height}
 use Rattle.px_frame.specs.Groups.{Group, group_of, grouped, groups_by, first_row, is_list}
-use Rattle.px_tree.specs.Tree.{Tree}
 use Rattle.px_steps.specs.Finds.{is_key}
-use Rattle.px_column.specs.Option.{each}
 use Rattle.px_steps.specs.Plain.{key_values}
 use Rattle.px_value.proofs.FitLaws.{both}
 use Rattle.px_frame.proofs.LookLaws.{has_length}
@@ -19,10 +16,6 @@ use Rattle.px_frame.proofs.LookLaws.{has_length}
 pub and_then_some : {A B : Type 0} (o : Option A) (f : A → Option B) (b : B) → option_and_then f o ≡ Some b → (a : A) × (o ≡ Some a) × (f a ≡ Some b)
 and_then_some None f b h = cc
 and_then_some (Some a) f b h = (a, refl, h)
-
-pub map_some : {A B : Type 0} (o : Option A) (f : A → B) (b : B) → option_map f o ≡ Some b → (a : A) × (o ≡ Some a) × (f a ≡ b)
-map_some None f b h = cc
-map_some (Some a) f b h = (a, refl, cc)
 
 -- the parts of some columns, where there is a key, none is a list and all have the height
 pub grouped_is : (n : ℕ) (by : List Series) → 0 < length by → list_any is_list by ≡ false → all_have_height n by ≡ true → grouped n by ≡ Ok (groups_by by n)

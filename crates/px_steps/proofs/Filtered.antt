@@ -3,7 +3,7 @@ use Rattle.std.proofs.Common.{◌≡◌, ◌⊎◌, inl, inr, ◌<◌, ◌^◌, 
 use Rattle.std.specs.Prelude.{IfOk}
 use Rattle.std.specs.Result.{result_ok}
 use Rattle.std.proofs.lemmas.Bool.Decides.{nat_tests}
-use Rattle.px_column.specs.Prelude.{Answers, Refuses, Slot, Kind, Series}
+use Rattle.px_column.specs.Prelude.{Answers, Slot, Kind, Series}
 use Rattle.px_column.specs.Operator.{is_boolean_kind}
 use Rattle.px_value.specs.declared.error.PxError.{PxError}
 use Rattle.px_value.specs.declared.error.PxError.TheVariants.{OutOfMemory, SchemaMismatch, ShapeMismatch}
@@ -11,11 +11,10 @@ use Rattle.px_frame.specs.External.{alone}
 use Rattle.px_frame.specs.Frame.{height_of, kept_frame, kept_series}
 use Rattle.px_frame.specs.Schema.{column_field}
 use Rattle.px_frame.specs.Spread.{NamedCell, spread, spread_column, with_slots}
-use Rattle.px_tree.specs.Built.{is_built_tree}
 use Rattle.px_tree.specs.Size.{size_on}
 use Rattle.px_tree.specs.Step.{filter}
 use Rattle.px_tree.specs.Tree.{Tree}
-use Rattle.px_tree.specs.Typing.{Scope, fails, kind_in, refusals_of, refused_where, type_of}
+use Rattle.px_tree.specs.Typing.{Scope, fails, kind_in, refusals_of, refused_where}
 use Rattle.px_tree.specs.declared.context.Context.TheVariants.{Default}
 use Rattle.px_steps.specs.Causes.{IsStepCause, StepAnswers}
 use Rattle.px_steps.specs.Finds.{Lacks, key_faults, mask_refusals}
@@ -23,14 +22,9 @@ use Rattle.px_steps.specs.Meets.{IsFirst}
 use Rattle.px_steps.specs.Plain.{columns_made, first_of, first_refusal, key_on, misfit_faults, named_value, step_on}
 use Rattle.px_tree.proofs.KindLaws.{none_left as nil_left, none_right as nil_right}
 use Rattle.px_steps.proofs.Columns.{and_then_some}
-use Rattle.px_steps.proofs.GroupStep.{spread_made, type_refused}
+use Rattle.px_steps.proofs.GroupStep.{spread_made}
 use Rattle.px_steps.proofs.Grouping.{no_refusal, value_there}
-use Rattle.px_steps.proofs.Named.{IsFirst_append}
 use Rattle.px_steps.proofs.Selected.{no_misfits, one_left, refusal_cause}
-
--- the first refusal of a mask in place of its type
-pub mask_refused : (e : PxError) (t : Tree) (scope : Scope) → is_built_tree t ≡ true → Refuses e (type_of t scope Default) → IsFirst e (mask_refusals scope t)
-mask_refused e t scope b h = IsFirst_append e (refusals_of t scope Default) _ (type_refused e t scope Default b h)
 
 -- a mask whose type is not refused has truths
 has_truths : (k : Kind) (o : Option Kind) → o ≡ Some k → refused_where (fails is_boolean_kind o) SchemaMismatch ≡ [] → is_boolean_kind k ≡ true

@@ -5,16 +5,14 @@ use Rattle.std.specs.List.{flat_map, list_all, list_any}
 use Rattle.std.specs.Option.{option_map_or}
 use Rattle.std.specs.Result.{result_ok}
 use Rattle.std.proofs.lemmas.Bool.Decides.{nat_tests}
-use Rattle.px_column.specs.Prelude.{Answers, Refuses, Slot, Kind, is_list_kind, Series}
+use Rattle.px_column.specs.Prelude.{Answers, Slot, Kind, is_list_kind, Series}
 use Rattle.px_column.specs.Option.{each}
 use Rattle.px_value.specs.declared.error.PxError.{PxError}
 use Rattle.px_value.specs.declared.error.PxError.TheVariants.{Duplicate, InvalidOperation, ComputeError, ShapeMismatch, OutOfMemory}
 use Rattle.px_value.specs.declared.error.InvalidWhy.TheVariants.{ListKey}
 use Rattle.px_value.specs.declared.error.ComputeWhy.TheVariants.{NoKey}
-use Rattle.px_tree.specs.Built.{is_built_tree}
-use Rattle.px_expr.specs.Plan.{planned_over}
-use Rattle.px_expr.specs.Planned.{Planned}
-use Rattle.px_expr.specs.Value.{IsCause, IsOneOf}
+use Rattle.px_answers.specs.Planned.{Planned}
+use Rattle.px_answers.specs.Value.{IsCause, IsOneOf}
 use Rattle.px_frame.specs.Aggregate.{key_column}
 use Rattle.px_frame.specs.Cell.{Cell, unit, rows}
 use Rattle.px_frame.specs.External.{Frame, alone, height, rows_of_frame, scope_of}
@@ -28,24 +26,23 @@ use Rattle.px_tree.specs.Size.{size_on}
 use Rattle.px_tree.specs.Tree.{Tree}
 use Rattle.px_tree.specs.View.{tree}
 use Rattle.px_tree.specs.declared.expr.Expr.{Expr}
-use Rattle.px_tree.specs.Typing.{Scope, fails, first_or_kind, kind_in, not_list, refusals_of, refused_where, type_of}
+use Rattle.px_tree.specs.Typing.{Scope, fails, kind_in, not_list, refusals_of, refused_where}
 use Rattle.px_tree.specs.Value.{faults_on, value_on}
-use Rattle.px_tree.specs.declared.context.Context.{Context}
 use Rattle.px_tree.specs.declared.context.Context.TheVariants.{Aggregation, Default}
 use Rattle.px_steps.specs.Finds.{is_key}
 use Rattle.px_steps.specs.Causes.{IsStepCause, StepAnswers}
 use Rattle.px_steps.specs.Finds.{Finds, IsAccepted, Lacks, key_faults, part_faults, part_frames, repeat_beside, typed_key_refusals}
 use Rattle.px_document.specs.Form.{with_front}
 use Rattle.px_steps.specs.Meets.{IsFirst}
-use Rattle.px_steps.specs.Plain.{agg_refusals, aggregated_on, columns_on, first_of, frames_by, greatest, grouped_kind, height_fault, key_on, key_refusals, key_values, named_value, no_key_refusal, refused_by, repeat_refusal, step_faults, step_refusals, value_on_part, group_frames}
+use Rattle.px_steps.specs.Plain.{agg_refusals, aggregated_on, columns_on, first_of, frame_refusals, frames_by, greatest, grouped_kind, height_fault, key_on, key_refusals, key_values, named_value, no_key_refusal, refused_by, repeat_refusal, step_faults, step_refusals, value_on_part, group_frames}
 use Rattle.px_tree.specs.Step.{group}
 use Rattle.px_steps.proofs.Columns.{all_true, and_then_some, heights_of_keys, keys_of_groups, names_of_keys, rows_of_groups}
 use Rattle.px_frame.proofs.LookLaws.{has_length}
 use Rattle.px_frame.proofs.LookLaws.{even_from}
 use Rattle.px_steps.proofs.Grouping.{accepted_lacks, no_refusal, value_there}
 use Rattle.px_steps.proofs.Selected.{name_kept, no_misfits, once_none, one_left, one_right, refuses_or}
-use Rattle.px_steps.proofs.Named.{IsFirst_append, refuses_first, refuses_none}
-use Rattle.px_tree.proofs.KindLaws.{There, kind_there, none_left as nil_left, none_right as nil_right}
+use Rattle.px_steps.proofs.Named.{IsFirst_append}
+use Rattle.px_tree.proofs.KindLaws.{none_left as nil_left, none_right as nil_right}
 use Rattle.std.proofs.lemmas.List.{append-nil as append_nil, map-append as map_append}
 use Rattle.px_value.proofs.EachLaws.{each_maps}
 use Rattle.px_value.proofs.FitLaws.{all_append}
@@ -180,14 +177,14 @@ columns_apart frame ts by columns h =
     let same : map (key_values (parts_of by (height frame))) by ++ first.0 ≡ columns = cc in
     (first.0, first.1, same)
 
-names_made : (frame : Frame) (ts : List Tree) (by columns : List Series) → columns_on frame ts by ≡ Some columns → names_of columns ≡ names_of by ++ map name_of ts
+pub names_made : (frame : Frame) (ts : List Tree) (by columns : List Series) → columns_on frame ts by ≡ Some columns → names_of columns ≡ names_of by ++ map name_of ts
 names_made frame ts by columns h =
     let ps = parts_of by (height frame) in
     let made = columns_apart frame ts by columns h in
     ap names_of (sym made.2) ∙ map_append (λ s. s.name) (map (key_values ps) by) made.0
     ∙ (λ i. names_of_keys ps by i ++ each_maps (aggregated_on frame ps) (λ s. s.name) name_of (λ t c e. (aggregated_seen frame ps t c e).0) ts made.0 made.1 i)
 
-even_made : (frame : Frame) (ts : List Tree) (by columns : List Series) → columns_on frame ts by ≡ Some columns → is_even columns ≡ true
+pub even_made : (frame : Frame) (ts : List Tree) (by columns : List Series) → columns_on frame ts by ≡ Some columns → is_even columns ≡ true
 even_made frame ts by columns h =
     let ps = parts_of by (height frame) in
     let made = columns_apart frame ts by columns h in
@@ -314,18 +311,6 @@ module _ (cs : List Series) (keys aggs : List Tree) (none : step_refusals (group
         let size : greatest (map (λ t. size_on t (frames_by (alone cs) keys)) aggs) ≡ greatest (map (λ t. size_on t (part_frames (alone cs) (parts_of by (height_of cs)))) aggs) = ap (λ (fs : List Frame). greatest (map (λ t. size_on t fs) aggs)) frames in
         inr (inr (accepted, inr (l.0, omega (arith, l.1, size))))
 
--- the first refusal in place of a type
-pub type_refused : (e : PxError) (t : Tree) (scope : Scope) (place : Context) → is_built_tree t ≡ true → Refuses e (type_of t scope place) → IsFirst e (refusals_of t scope place)
-type_refused e t scope place b h = by (refusals_of t scope place) (kind_in t scope) (kind_there t scope place) h
-  where
-    by : (R : List PxError) (K : Option Kind) → (R ≡ [] → There K) → Refuses e (first_or_kind R K) → IsFirst e R
-    by [] None there h = let k = there refl in cc
-    by [] (Some k) there h = refuses_none e k [] h
-    by (x ∷ xs) K there h = refuses_first Kind e x xs h
-
-pub key_refused : (e : PxError) (t : Tree) (scope : Scope) → is_built_tree t ≡ true → Refuses e (type_of t scope Default) → IsFirst e (typed_key_refusals scope t)
-key_refused e t scope b h = IsFirst_append e (refusals_of t scope Default) _ (type_refused e t scope Default b h)
-
 -- the refusals of a step's parts, where it has none
 pub refusals_apart : (frame : Frame) (keys aggs : List Tree) → step_refusals (group keys aggs None) frame ≡ []
     → (no_key_refusal keys ≡ []) × (flat_map (key_refusals frame) keys ≡ []) × (flat_map (agg_refusals frame) aggs ≡ []) × (repeat_refusal (keys ++ aggs) ≡ [])
@@ -338,6 +323,14 @@ refusals_apart frame keys aggs h =
     let typed = nil_left ((N ++ K) ++ A) R all in
     let keyed = nil_left (N ++ K) A typed in
     (nil_left N K keyed, nil_right N K keyed, nil_right (N ++ K) A typed, nil_right ((N ++ K) ++ A) R all)
+
+-- keys that are not refused are typed on the frame
+pub keys_typed : (frame : Frame) (keys : List Tree) → flat_map (key_refusals frame) keys ≡ [] → flat_map (frame_refusals frame) keys ≡ []
+keys_typed frame [] h = refl
+keys_typed frame (t ∷ ts) h =
+    let own = nil_left (frame_refusals frame t) _ (nil_left (key_refusals frame t) (flat_map (key_refusals frame) ts) h) in
+    let rest = keys_typed frame ts (nil_right (key_refusals frame t) (flat_map (key_refusals frame) ts) h) in
+    λ i. own i ++ rest i
 
 some_key : (keys : List Tree) → no_key_refusal keys ≡ [] → 0 < length keys
 some_key [] h = cc
@@ -360,12 +353,8 @@ lacks_left e xs ys n (inr (inl o)) = inr (inl (one_left e xs ys o))
 lacks_left e xs ys n (inr (inr l)) = inr (inr l)
 
 -- why a key has no value
-pub key_lacks : (e : PxError) (p : Planned) (t : Tree) (cs : List Series) → p ≡ planned_over (map column_field cs) t → is_built_tree t ≡ true → refusals_of t (map column_field cs) Default ≡ [] → IsCause e p (alone cs)
-    → Lacks e (key_faults (alone cs) t) (size_on t (alone cs ∷ []))
-key_lacks e p t cs h b n c =
-    let plan = planned_over (map column_field cs) t in
-    let is : IsAccepted plan cs = record { built = b; over = refl; accepted = n } in
-    lacks_left e (faults_on t (alone cs)) (height_fault (alone cs) (value_on t (alone cs))) _ (accepted_lacks e plan cs is (subst (λ (q : Planned). IsCause e q (alone cs)) h c))
+pub key_lacks : (e : PxError) (p : Planned) (cs : List Series) → IsAccepted p cs Default → IsCause e p (alone cs) → Lacks e (key_faults (alone cs) p.tree) (size_on p.tree (alone cs ∷ []))
+key_lacks e p cs a c = lacks_left e (faults_on p.tree (alone cs)) (height_fault (alone cs) (value_on p.tree (alone cs))) _ (accepted_lacks e p cs a c)
 
 -- a key's value as a column, or its fault where it has not the frame's height
 pub key_finds : (cs : List Series) (t : Tree) (c : NamedCell) (r : Result Series PxError) (n : ℕ) → named_value (alone cs) t ≡ Some c → faults_on t (alone cs) ≡ [] → Answers r (spread_column (height_of cs) c)
@@ -386,10 +375,6 @@ key_finds cs t c r n value sound a =
     by (Ok xs) (Err e) b = inl (no_refusal e (Ok (record { name = c.name; kind = c.kind; slots = xs })) _ refl b)
     by (Err f) (Ok s) b = cc
     by (Err f) (Err e) b = refused e f (refuses_or e (Err f) b)
-
--- without columns there are no groups
-pub no_groups : (cs by : List Series) (g : Groups) → g ≡ groups_by by (height_of cs) → cs ≡ [] → g.groups ≡ []
-no_groups cs by g h e = ap (λ (x : Groups). x.groups) (h ∙ (λ i. groups_by by (height_of (e i))))
 
 pub parts_found : (cs by : List Series) (g : Groups) → g ≡ groups_by by (height_of cs) → rows_of g ≡ parts_of by (height_of cs)
 parts_found cs by g h = ap rows_of h ∙ rows_of_groups (parts_of by (height_of cs))

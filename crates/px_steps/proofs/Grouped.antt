@@ -1,6 +1,9 @@
 -- A group step that is run is one of expressions that have nodes, without chunks.
-use Rattle.std.proofs.Common.{◌≡◌, ℕ, Bool, true, false, ◌&&◌, List, [], ◌∷◌, Option, Some, None, Result, refl, sym, ◌∙◌, ap, subst}
+use Rattle.std.proofs.Common.{◌≡◌, ℕ, true, false, List, Option, Some, None, Result, refl, sym, ◌∙◌, ap, subst}
 use Rattle.std.specs.List.{list_all}
+use Rattle.std.specs.Prelude.{OnOk}
+use Rattle.px_frame.specs.External.{Frame}
+use Rattle.px_steps.specs.Plain.{RisesAtMost, most_kernels_in}
 use Rattle.px_column.specs.Prelude.{Series}
 use Rattle.px_value.specs.declared.error.PxError.{PxError}
 use Rattle.px_tree.specs.Built.{is_built_tree}
@@ -24,3 +27,10 @@ pub group_run : (step : PlainStep) (keys aggs : List Tree) (chunks : Option (Lis
 group_run step keys aggs chunks cs r e b h =
     let none = (group_built step keys aggs chunks e b).2 in
     subst (λ (s : PlainStep). StepAnswers r s cs) (ap (group keys aggs) (sym none) ∙ sym e) h
+
+-- and how many kernels it runs at most
+pub group_most : (step : PlainStep) (keys aggs : List Tree) (chunks : Option (List ℕ)) (F : Frame) (old new : ℕ) (r : Result (List Series) PxError) → step ≡ group keys aggs chunks → is_built step ≡ true
+    → OnOk r (RisesAtMost (most_kernels_in (group keys aggs None) F) old new) → OnOk r (RisesAtMost (most_kernels_in step F) old new)
+group_most step keys aggs chunks F old new r e b h =
+    let none = (group_built step keys aggs chunks e b).2 in
+    subst (λ (s : PlainStep). OnOk r (RisesAtMost (most_kernels_in s F) old new)) (ap (group keys aggs) (sym none) ∙ sym e) h

@@ -10,4 +10,6 @@ pub mod Replied
 pub mod StepLoop
 pub mod Endings
 pub mod Command
-pub mod DirectLaws
+pub mod Aggregated
+pub mod Nodes
+pub mod Kernels

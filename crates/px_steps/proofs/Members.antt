@@ -1,10 +1,10 @@
 -- What holds of a list holds of an item of it, and what holds of an item may hold of the list.
-use Rattle.std.proofs.Common.{◌≡◌, ◌⊎◌, inl, inr, ℕ, zero, suc, ◌+◌, ◌<◌, ◌≤◌, ◌^◌, Bool, true, ◌&&◌, List, [], ◌∷◌, ◌++◌, Option, Some, None, Result, Ok, Err, IfOk, OnOk, option_map, option_and_then, length, drop, map, get_or, append_assoc, sum, refl, sym, ◌∙◌, ap, arith, subst}
+use Rattle.std.proofs.Common.{◌≡◌, ◌⊎◌, inl, inr, ℕ, zero, suc, ◌+◌, ◌<◌, ◌≤◌, ◌^◌, Bool, true, List, [], ◌∷◌, ◌++◌, Option, Some, None, Result, Ok, Err, OnOk, option_map, option_and_then, length, drop, map, get_or, append_assoc, refl, sym, ◌∙◌, ap, arith, subst}
 use Rattle.std.specs.List.{flat_map, list_all, sum_by}
 use Rattle.std.proofs.lemmas.List.{at_drop_more}
 use Rattle.std.proofs.lemmas.List.Sums.{sum_by-cons}
 use Rattle.px_value.specs.declared.error.PxError.{PxError}
-use Rattle.px_expr.specs.Value.{IsOneOf}
+use Rattle.px_answers.specs.Value.{IsOneOf}
 use Rattle.px_steps.specs.Finds.{Lacks}
 use Rattle.px_column.specs.Option.{each}
 use Rattle.px_document.specs.Form.{with_front}
@@ -53,22 +53,6 @@ in_greatest f [] x h = absurd h
 in_greatest f (y ∷ ys) x (inl e) = let same : f x ≡ f y = ap f e in omega arith
 in_greatest f (y ∷ ys) x (inr h) = let rest = in_greatest f ys x h in omega (arith, rest)
 
-pub in_sum : {A : Type 0} (f : A → ℕ) (xs : List A) (x : A) → In x xs → f x ≤ sum (map f xs)
-in_sum f [] x h = absurd h
-in_sum f (y ∷ ys) x (inl e) =
-    let same : f x ≡ f y = ap f e in
-    let first : sum (map f (y ∷ ys)) ≡ f y + sum (map f ys) = sum_by-cons (λ n. n) (f y) (map f ys) in
-    omega arith
-in_sum f (y ∷ ys) x (inr h) =
-    let rest = in_sum f ys x h in
-    let first : sum (map f (y ∷ ys)) ≡ f y + sum (map f ys) = sum_by-cons (λ n. n) (f y) (map f ys) in
-    omega (arith, rest)
-
--- what holds of a value holds of what is answered
-pub if_ok : {X E : Type 0} {P Q : X → Type 0} (r : Result X E) → IfOk r P → ((x : X) → P x → Q x) → IfOk r Q
-if_ok (Ok x) h f = f x h
-if_ok (Err e) h f = h
-
 -- what holds holds on Ok
 pub on_ok : {X E P : Type 0} (r : Result X E) → P → OnOk r P
 on_ok (Ok x) h = h
@@ -85,7 +69,7 @@ front_moved {A} {B} f x xs front y e =
 
 -- a loop over a list, of whose items a part is seen, at the item x
 module _ {X A : Type 0} (v : X → A) (xs : List X) (i : ℕ) (x : X) (below : i < length xs) (is : x ≡ get_or xs i x) where
-  at : {Y : Type 0} (f : List A → Y) → f (map v (drop i xs)) ≡ f (v x ∷ map v (drop (i + 1) xs))
+  pub at : {Y : Type 0} (f : List A → Y) → f (map v (drop i xs)) ≡ f (v x ∷ map v (drop (i + 1) xs))
   at f = at_drop_more (λ es. f (map v es)) xs i x below ∙ ap (λ e. f (v e ∷ map v (drop (i + 1) xs))) (sym is)
 
   pub in_here : In (v x) (map v xs)
@@ -99,6 +83,9 @@ module _ {X A : Type 0} (v : X → A) (xs : List X) (i : ℕ) (x : X) (below : i
 
   pub least_next : (f : A → ℕ) (all old new : ℕ) → all ≤ old + sum_by f (map v (drop i xs)) → old + f (v x) ≤ new → all ≤ new + sum_by f (map v (drop (i + 1) xs))
   least_next f all old new h one = omega (arith, h, one, at (sum_by f), sum_by-cons f (v x) (map v (drop (i + 1) xs)))
+
+  pub most_next : (f : A → ℕ) (all old new : ℕ) → old + sum_by f (map v (drop i xs)) ≤ all → new ≤ old + f (v x) → new + sum_by f (map v (drop (i + 1) xs)) ≤ all
+  most_next f all old new h one = omega (arith, h, one, at (sum_by f), sum_by-cons f (v x) (map v (drop (i + 1) xs)))
 
   pub values_next : {B : Type 0} (f : A → Option B) (front new : List B) (b : B) (all : Option (List B)) → with_front front (each f (map v (drop i xs))) ≡ all → f (v x) ≡ Some b → new ≡ front ++ b ∷ []
       → with_front new (each f (map v (drop (i + 1) xs))) ≡ all

@@ -1,5 +1,5 @@
 -- What is written for a document.
-use Rattle.std.proofs.Common.{◌≡◌, ◌≤◌, ℕ, ◌+◌, true, List, [], ◌∷◌, Some, refl, ◌∙◌, ap, subst, ◌&&◌}
+use Rattle.std.proofs.Common.{◌≡◌, ◌≤◌, ℕ, ◌+◌, true, List, Some, ◌∙◌, ap, subst}
 use Rattle.std.specs.List.{list_all}
 use Rattle.std.specs.Prelude.{IfOk, OnOk, Result, Ok, Err}
 use Rattle.px_column.specs.Prelude.{Series}
@@ -11,7 +11,7 @@ use Rattle.px_tree.specs.Built.{is_built}
 use Rattle.px_steps.specs.Causes.{AreRun, IsCauseIn}
 use Rattle.px_document.specs.Document.{Doc}
 use Rattle.px_document.specs.Label.{line_of}
-use Rattle.px_steps.specs.Plain.{groupings_of, kernels_of, plain_on}
+use Rattle.px_steps.specs.Plain.{RisesAtMost, groupings_of, kernels_of, most_kernels_of, plain_on}
 use Rattle.px_document.specs.DocumentText.{IsDocument}
 use Rattle.px_steps.specs.Reply.{IsResult, IsRefusal}
 use Rattle.px_document.specs.Text.{text_of}
@@ -37,6 +37,9 @@ grouped_by bytes doc old new is h other also = let same = one_document bytes doc
 -- and so are its kernels
 pub ticked_by : (bytes : List ℕ) (doc : Doc) (old new : ℕ) → IsDocument bytes doc → old + kernels_of doc.steps ≤ new → (other : Doc) → IsDocument bytes other → old + kernels_of other.steps ≤ new
 ticked_by bytes doc old new is h other also = subst (λ (d : Doc). old + kernels_of d.steps ≤ new) (one_document bytes doc other is also) h
+
+pub bounded_by : (bytes : List ℕ) (doc : Doc) (old new : ℕ) → IsDocument bytes doc → RisesAtMost (most_kernels_of doc.steps (alone doc.columns)) old new → (other : Doc) → IsDocument bytes other → RisesAtMost (most_kernels_of other.steps (alone other.columns)) old new
+bounded_by bytes doc old new is h other also = subst (λ (d : Doc). RisesAtMost (most_kernels_of d.steps (alone d.columns)) old new) (one_document bytes doc other is also) h
 
 -- what holds on Ok beside what holds of the value
 pub with_cause : {A E : Type 0} (r : Result A E) (P Q : A → Type 0) (C : Type 0) → IfOk r P → OnOk r C → ((a : A) → P a → C → Q a) → IfOk r Q

@@ -7,28 +7,26 @@ use Rattle.std.specs.Option.{option_map_or}
 use Rattle.std.specs.Result.{result_ok}
 use Rattle.px_column.specs.Prelude.{Answers, AnswersBy, Refuses, Kind, Series}
 use Rattle.px_column.specs.Option.{each}
-use Rattle.px_column.specs.Reduction.{reduced_kind}
 use Rattle.px_column.specs.Result.{◌>>=◌}
 use Rattle.px_value.specs.declared.error.PxError.{PxError}
 use Rattle.px_value.specs.declared.error.PxError.TheVariants.{ColumnNotFound, Duplicate, InvalidOperation, ComputeError, OutOfBounds, ShapeMismatch, SchemaMismatch, OutOfMemory}
 use Rattle.px_value.specs.declared.error.ComputeWhy.TheVariants.{TooLong}
 use Rattle.px_tree.specs.Built.{is_built_tree}
 use Rattle.px_expr.specs.Plan.{plan_in, planned_over}
-use Rattle.px_expr.specs.Planned.{Planned, is_reserved}
-use Rattle.px_expr.specs.Counted.{flat_kernels}
-use Rattle.px_expr.specs.Parts.{plan_trees}
-use Rattle.px_expr.specs.Value.{AreCellsOf, IsCause, IsCauseOfAny, IsCellOf, IsOneOf, IsValue, causes_on, unfound_refusal}
+use Rattle.px_answers.specs.Planned.{Planned, is_reserved}
+use Rattle.px_answers.specs.Counted.{flat_kernels}
+use Rattle.px_answers.specs.Parts.{plan_trees}
+use Rattle.px_answers.specs.Value.{AreCellsOf, IsCause, IsCauseOfAny, IsCellOf, IsOneOf, causes_on, unfound_refusal}
 use Rattle.px_frame.specs.External.{Frame, alone, scope_of}
 use Rattle.px_frame.specs.Cell.{Cell}
 use Rattle.px_frame.specs.Frame.{first_repeat, height_of, look, unless_repeated}
 use Rattle.px_frame.specs.Spread.{NamedCell, assembled, rows_beside, spread_all}
 use Rattle.px_frame.specs.Schema.{FieldKind, column_field, has_field_name}
-use Rattle.px_frame.specs.Cell.{cell_of}
 use Rattle.px_tree.specs.Nodes.{leaf_names, all_leaf_names}
-use Rattle.px_tree.specs.Shape.{has_window, have_window, is_unit, name_of}
+use Rattle.px_tree.specs.Shape.{has_window, have_window, name_of}
 use Rattle.px_tree.specs.Size.{size_on, sizes_on}
 use Rattle.px_tree.specs.Tree.{Tree, Trees, no_trees, one_tree, column, literal, alias, binary, ternary, cast, function, filter, slice, gather, sort, sort_by, agg, len, window}
-use Rattle.px_tree.specs.Typing.{Scope, kind_in, kind_of_name, refusals_of, all_refusals_of, refused_where, refusal_of, refusal_of_one, made_kind, literal_kind, on_groups, grouped_reduction_refusals, or_first, first_or_kind}
+use Rattle.px_tree.specs.Typing.{Scope, kind_in, kind_of_name, refusals_of, all_refusals_of, refused_where, first_or_kind}
 use Rattle.px_tree.specs.Value.{faults_on, is_misfit, has_misfit, value_on, named}
 use Rattle.px_tree.specs.declared.context.Context.{Context}
 use Rattle.px_tree.specs.declared.context.Context.TheVariants.{Default}
@@ -43,7 +41,7 @@ use Rattle.px_expr.specs.declared.phys_expr.PhysExpr.{PhysExpr}
 use Rattle.px_value.proofs.EachLaws.{each_maps}
 use Rattle.px_value.proofs.FitLaws.{both}
 use Rattle.px_steps.proofs.Named.{IsFirst_append, refuses_first, refuses_none}
-use Rattle.px_tree.proofs.KindLaws.{There, kind_there, name_there, none_left as nil_left, none_right as nil_right, none_first as inputs_none, none_own as own_none}
+use Rattle.px_tree.proofs.KindLaws.{There, kind_there, name_there, none_left as nil_left, none_right as nil_right, none_first as inputs_none}
 
 -- the planner's answer is told by the refusals
 pub planned_meets : {X : Type 0} (view : X → Planned) (t : Tree) (scope : Scope) (place : Context) (r : Result X PxError) → is_built_tree t ≡ true
@@ -167,7 +165,7 @@ module _ (cs : List Series) where
 pub leaves_found : (cs : List Series) (t : Tree) → is_built_tree t ≡ true → refusals_of t (map column_field cs) Default ≡ [] → flat_map (unfound_refusal (alone cs)) (planned_over (map column_field cs) t).columns ≡ []
 leaves_found cs t b h = names_found cs t (no_window t b) h
 
-no_misfit : (cs : List Series) (ns : List (List ℕ)) → list_any (is_misfit (alone cs)) ns ≡ false
+pub no_misfit : (cs : List Series) (ns : List (List ℕ)) → list_any (is_misfit (alone cs)) ns ≡ false
 no_misfit cs [] = refl
 no_misfit cs (n ∷ ns) = λ i. and_false (not (is_some (look n cs))) i || no_misfit cs ns i
 

@@ -1,20 +1,21 @@
 -- One more step run.
 use Rattle.std.proofs.Common.{◌≡◌, inl, inr, ℕ, ◌+◌, ◌<◌, ◌≤◌, true, List, [], ◌∷◌, Some, None, Result, Ok, Err, length, drop, take, ◌-◌, map, get_or, option_and_then, sym, ◌∙◌, ap, subst, arith, refl}
 use Rattle.std.specs.List.{list_all}
-use Rattle.std.specs.Prelude.{IfOk, IfErr, OnOk}
+use Rattle.std.specs.Prelude.{IfOk, IfErr}
 use Rattle.std.proofs.lemmas.List.{at_drop_all, at_drop_more, take_all}
 use Rattle.std.proofs.lemmas.List.Sums.{sum_by-cons}
 use Rattle.px_column.specs.Prelude.{Series}
 use Rattle.px_value.specs.declared.error.PxError.{PxError}
 use Rattle.px_value.specs.declared.error.PxError.TheVariants.{OutOfMemory}
-use Rattle.px_expr.specs.Value.{IsOneOf}
+use Rattle.px_answers.specs.Value.{IsOneOf}
 use Rattle.px_frame.specs.External.{Frame, alone}
 use Rattle.px_tree.specs.Built.{is_built}
 use Rattle.px_steps.specs.Causes.{AreRun, IsCauseIn, StandsIn, StepAnswers, StepsAnswer}
-use Rattle.px_steps.specs.Plain.{AreValid, groupings_in, groupings_of, kernels_in, kernels_of, plain_on, step_on}
+use Rattle.px_steps.specs.Plain.{AreValid, RisesAtMost, groupings_in, groupings_of, kernels_in, kernels_of, most_kernels_in, most_kernels_of, plain_on, step_on}
 use Rattle.px_tree.specs.Step.{PlainStep, step_view}
 use Rattle.px_tree.specs.declared.step.Step.{Step}
 use Rattle.px_value.proofs.FitLaws.{both}
+use Rattle.px_steps.proofs.Kernels.{steps_more}
 
 -- a step before others that answer
 pub answer_first : (s : PlainStep) (steps : List PlainStep) (cs next : List Series) (r : Result (List Series) PxError) → StepAnswers (Ok next) s cs → StepsAnswer r steps next → StepsAnswer r (s ∷ steps) cs
@@ -43,6 +44,11 @@ module _ (steps : List Step) (i : ℕ) (k : Step) (below : i < length steps) (is
   pub ticks_next : (before after all : ℕ) → all ≤ before + kernels_of (map step_view (drop i steps)) → before + kernels_in (step_view k) ≤ after → all ≤ after + kernels_of (map step_view (drop (i + 1) steps))
   ticks_next before after all h e = omega (arith, h, e, at kernels_of, sum_by-cons kernels_in (step_view k) (map step_view (drop (i + 1) steps)))
 
+  pub most_after : (F next : Frame) (whole : ℕ → Type 0) (old mid : ℕ) → ((new : ℕ) → RisesAtMost (most_kernels_of (map step_view (drop i steps)) F) old new → whole new) → step_on (step_view k) F ≡ Some next
+      → RisesAtMost (most_kernels_in (step_view k) F) old mid → (new : ℕ) → RisesAtMost (most_kernels_of (map step_view (drop (i + 1) steps)) next) mid new → whole new
+  most_after F next whole old mid h made one new rest =
+      h new (subst (λ o. RisesAtMost o old new) (sym (at (λ ss. most_kernels_of ss F))) (steps_more (step_view k) (map step_view (drop (i + 1) steps)) F next old mid new made one rest))
+
   pub answer_next : (cs next : List Series) (all : List PlainStep) (initial : List Series) → ((r : Result (List Series) PxError) → StepsAnswer r (map step_view (drop i steps)) cs → StepsAnswer r all initial)
       → StepAnswers (Ok next) (step_view k) cs → (r : Result (List Series) PxError) → StepsAnswer r (map step_view (drop (i + 1) steps)) next → StepsAnswer r all initial
   answer_next cs next all initial h one r rest =
@@ -54,6 +60,18 @@ module _ (steps : List Step) (i : ℕ) (k : Step) (below : i < length steps) (is
 -- no step is left
 pub answer_end : (steps : List Step) (i : ℕ) (cs : List Series) → length steps ≤ i → StepsAnswer (Ok cs) (map step_view (drop i steps)) cs
 answer_end steps i cs h = subst (λ (ss : List PlainStep). StepsAnswer (Ok cs) ss cs) (sym (at_drop_all (λ ss. map step_view ss) steps i h)) refl
+
+pub most_end : (steps : List Step) (i : ℕ) → length steps ≤ i → (F : Frame) (whole : ℕ → Type 0) (now : ℕ) → ((new : ℕ) → RisesAtMost (most_kernels_of (map step_view (drop i steps)) F) now new → whole new) → whole now
+most_end steps i end F whole now h = h now (subst (λ o. RisesAtMost o now now) (sym (at_drop_all (λ ss. most_kernels_of (map step_view ss) F) steps i end)) (omega arith))
+
+-- the kernels of the first of some steps, and then of the others
+pub most_whole : (steps : List Step) (k : Step) (F next : Frame) (old mid new : ℕ) → 1 ≤ length steps → k ≡ get_or steps 0 k → step_on (step_view k) F ≡ Some next → RisesAtMost (most_kernels_in (step_view k) F) old mid
+    → RisesAtMost (most_kernels_of (map step_view (take (length steps - 1) (drop 1 steps))) next) mid new → RisesAtMost (most_kernels_of (map step_view steps) F) old new
+most_whole [] k F next old mid new some is made one rest = absurd (omega arith)
+most_whole (s ∷ steps) k F next old mid new some is made one rest =
+    let others : take (length (s ∷ steps) - 1) (drop 1 (s ∷ steps)) ≡ steps = take_all (length (s ∷ steps) - 1) steps (omega arith) in
+    subst (λ (x : Step). RisesAtMost (most_kernels_of (step_view x ∷ map step_view steps) F) old new) is
+    (steps_more (step_view k) (map step_view steps) F next old mid new made one (subst (λ (ss : List Step). RisesAtMost (most_kernels_of (map step_view ss) next) mid new) others rest))
 
 -- the first of some steps, before the others
 pub answer_whole : (steps : List Step) (k : Step) (cs next : List Series) (r : Result (List Series) PxError) → 1 ≤ length steps → k ≡ get_or steps 0 k → StepAnswers (Ok next) (step_view k) cs

@@ -4,7 +4,7 @@ use Rattle.px_column.specs.Prelude.{Series}
 use Rattle.px_value.specs.declared.error.PxError.{PxError}
 use Rattle.px_value.specs.declared.error.PxError.TheVariants.{ComputeError, OutOfMemory}
 use Rattle.px_value.specs.declared.error.ComputeWhy.TheVariants.{TooLong}
-use Rattle.px_expr.specs.Value.{IsOneOf}
+use Rattle.px_answers.specs.Value.{IsOneOf}
 use Rattle.px_frame.specs.External.{Frame, alone, height}
 use Rattle.px_steps.specs.Plain.{first_refusal, step_faults, step_on, step_size}
 use Rattle.px_tree.specs.Step.{PlainStep}

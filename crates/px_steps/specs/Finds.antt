@@ -1,29 +1,31 @@
 -- What is found of expressions that are not refused: what they mean, or a fault, or too many values.
-use Rattle.std.specs.Prelude.{◌≡◌, ◌⊎◌, ℕ, ◌^◌, ◌≤◌, Bool, true, ◌&&◌, not, List, [], ◌∷◌, ◌++◌, Option, Some, Result, Ok, Err, map, if◌then◌else◌}
+use Rattle.std.specs.Prelude.{◌≡◌, ◌⊎◌, ℕ, ◌^◌, ◌≤◌, Bool, true, ◌&&◌, not, List, [], ◌∷◌, ◌++◌, Option, Some, Result, Ok, Err, map}
 use Rattle.std.specs.List.{flat_map}
 use Rattle.std.specs.Option.{option_map_or}
-use Rattle.px_column.specs.Prelude.{Slot, Kind, lists, slot_fits, Series}
+use Rattle.px_column.specs.Prelude.{Series}
 use Rattle.px_column.specs.Operator.{is_boolean_kind}
 use Rattle.px_value.specs.declared.error.PxError.{PxError}
 use Rattle.px_value.specs.declared.error.PxError.TheVariants.{ComputeError, Duplicate, InvalidOperation, SchemaMismatch, OutOfMemory}
 use Rattle.px_value.specs.declared.error.InvalidWhy.TheVariants.{ListKey}
 use Rattle.px_value.specs.declared.error.ComputeWhy.TheVariants.{TooLong}
 use Rattle.px_tree.specs.Built.{is_built_tree}
+use Rattle.px_expr.specs.NodeView.{plan_of}
 use Rattle.px_expr.specs.Plan.{planned_over}
-use Rattle.px_expr.specs.Planned.{Planned}
-use Rattle.px_expr.specs.Value.{IsOneOf}
+use Rattle.px_expr.specs.declared.phys_expr.PhysExpr.{PhysExpr}
+use Rattle.px_answers.specs.Planned.{Planned}
+use Rattle.px_answers.specs.Value.{IsOneOf}
 use Rattle.px_frame.specs.External.{Frame, rows_of_frame}
 use Rattle.px_frame.specs.Frame.{first_repeat, has_height, height_of}
 use Rattle.px_frame.specs.Groups.{is_list}
 use Rattle.px_frame.specs.Schema.{column_field}
-use Rattle.px_frame.specs.Spread.{NamedCell}
-use Rattle.px_frame.specs.Cell.{is_unit_cell}
 use Rattle.px_tree.specs.Shape.{name_of}
 use Rattle.px_tree.specs.Tree.{Tree}
 use Rattle.px_tree.specs.Typing.{Scope, fails, kind_in, not_list, refusals_of, refused_where}
 use Rattle.px_tree.specs.Value.{faults_on, value_on}
+use Rattle.px_tree.specs.declared.context.Context.{Context}
 use Rattle.px_tree.specs.declared.context.Context.TheVariants.{Default}
-use Rattle.px_steps.specs.Plain.{grouped_kind, height_fault}
+use Rattle.px_steps.specs.Plain.{height_fault}
+use Rattle.px_steps.specs.declared.group_step.GroupNodes.{GroupNodes}
 
 -- memory was wanting, or one of some faults stands, or so many values are too many
 abbrev pub Lacks : PxError → List PxError → ℕ → Type 0
@@ -39,11 +41,33 @@ abbrev pub Finds : {X : Type 0} → Result X PxError → Option X → List PxErr
 Finds (Ok x) meant faults n = (faults ≡ []) × (meant ≡ Some x)
 Finds (Err e) meant faults n = Lacks e faults n
 
--- an expression that has nodes, planned over the names and types of some columns, and not refused there
-pub record IsAccepted (p : Planned) (columns : List Series) : Type 0 where
+-- an expression that has nodes, planned over the names and types of some columns, and not refused there in its place
+pub record IsAccepted (p : Planned) (columns : List Series) (place : Context) : Type 0 where
   pub built : is_built_tree p.tree ≡ true
   pub over : p ≡ planned_over (map column_field columns) p.tree
-  pub accepted : refusals_of p.tree (map column_field columns) Default ≡ []
+  pub accepted : refusals_of p.tree (map column_field columns) place ≡ []
+
+-- the same of some expressions
+abbrev pub AreAccepted : List Planned → List Series → Context → Type 0
+AreAccepted [] columns place = Unit {0}
+AreAccepted (p ∷ ps) columns place = IsAccepted p columns place × AreAccepted ps columns place
+
+-- the expression of a node
+abbrev pub node_tree : PhysExpr → Tree
+node_tree n = (plan_of n).tree
+
+-- a group step's keys and aggregations as nodes
+pub record GroupPlans : Type 0 where
+  pub keys : List Planned
+  pub aggs : List Planned
+
+-- what contracts see of the nodes of a group step
+abbrev pub group_plans : GroupNodes → GroupPlans
+group_plans g = record { keys = map plan_of g.keys.items; aggs = map plan_of g.aggs.items }
+
+-- keys and aggregations that are planned over some names and types
+abbrev pub plans_over : Scope → List Tree → List Tree → GroupPlans
+plans_over scope keys aggs = record { keys = map (planned_over scope) keys; aggs = map (planned_over scope) aggs }
 
 -- the first expression's name that stands among these names, or twice
 abbrev pub repeat_beside : List (List ℕ) → List Tree → List PxError
@@ -72,11 +96,3 @@ part_frames frame parts = map (rows_of_frame frame) parts
 -- the faults of an expression's values on each of some parts
 abbrev pub part_faults : Frame → List (List ℕ) → Tree → List PxError
 part_faults frame parts e = flat_map (λ p. faults_on e (rows_of_frame frame p)) parts
-
--- the type of a cell as one value: of a unit its own, of rows a list of them
-abbrev pub value_kind : NamedCell → Kind
-value_kind c = if is_unit_cell c.cell then c.kind else lists c.kind
-
--- a value fits the type that an expression over some columns has on groups
-abbrev pub FitsGrouped : Tree → List Series → Slot → Type 0
-FitsGrouped e columns s = (k : Kind) → kind_in e (map column_field columns) ≡ Some k → slot_fits (grouped_kind e k) s ≡ true

@@ -1,5 +1,4 @@
 pub mod Plain
-pub mod Direct
 pub mod Causes
 pub mod Finds
 pub mod Reply

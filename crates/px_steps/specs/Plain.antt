@@ -1,5 +1,5 @@
 -- What steps mean on plain frames, why they are refused, and the faults of their values.
-use Rattle.std.specs.Prelude.{◌≡◌, ℕ, ◌^◌, ◌<◌, not, ◌==◌, List, [], ◌∷◌, ◌++◌, Option, Some, None, Result, Ok, Err, map, max, sum, option_map, if◌then◌else◌}
+use Rattle.std.specs.Prelude.{◌≡◌, ℕ, ◌+◌, ◌^◌, ◌<◌, ◌≤◌, IfSome, length, not, ◌==◌, List, [], ◌∷◌, ◌++◌, Option, Some, None, Result, Ok, Err, map, max, sum, option_map, if◌then◌else◌}
 use Rattle.std.specs.List.{flat_map, filter_map, list_any, sum_by}
 use Rattle.std.specs.Option.{option_map_or}
 use Rattle.std.specs.Result.{result_ok}
@@ -11,13 +11,14 @@ use Rattle.px_value.specs.declared.error.PxError.TheVariants.{Duplicate, Invalid
 use Rattle.px_value.specs.declared.error.InvalidWhy.TheVariants.{ListKey}
 use Rattle.px_value.specs.declared.error.ComputeWhy.TheVariants.{NoKey, NotPartitionSafe, ChunkLengths}
 use Rattle.px_frame.specs.Cell.{Cell, value_of_cell}
-use Rattle.px_expr.specs.Counted.{flat_kernels}
+use Rattle.px_answers.specs.Counted.{flat_kernels}
 use Rattle.px_frame.specs.External.{Frame, height, scope_of, rows_of_frame}
 use Rattle.px_frame.specs.Frame.{height_of, first_repeat, kept_series}
 use Rattle.px_frame.specs.Groups.{first_row}
 use Rattle.px_frame.specs.Parts.{parts_of}
 use Rattle.px_frame.specs.Schema.{column_field}
 use Rattle.px_frame.specs.Spread.{NamedCell, spread, spread_column, spread_all, rows_beside, assembled}
+use Rattle.px_tree.specs.Cost.{cost_on, group_cost}
 use Rattle.px_tree.specs.Partition.{is_elementwise, is_partition_safe}
 use Rattle.px_tree.specs.Shape.{is_unit, name_of}
 use Rattle.px_tree.specs.Size.{size_on}
@@ -196,13 +197,42 @@ groupings_in _ = 0
 abbrev pub groupings_of : List PlainStep → ℕ
 groupings_of steps = sum_by groupings_in steps
 
--- how many kernels a step runs at least: those of its flat expressions. Of aggregations none are counted: they are evaluated on
--- each group, of which there may be none
+-- how many kernels a step runs at least: those of its flat expressions. A flat aggregation runs its own over all groups at once,
+-- also where there is none
 abbrev pub kernels_in : PlainStep → ℕ
 kernels_in (select es) = sum_by flat_kernels es
 kernels_in (filter e) = flat_kernels e
-kernels_in (group keys aggs chunks) = sum_by flat_kernels keys
+kernels_in (group keys aggs chunks) = sum_by flat_kernels keys + sum_by flat_kernels aggs
 
 -- how many kernels some steps run at least
 abbrev pub kernels_of : List PlainStep → ℕ
 kernels_of steps = sum_by kernels_in steps
+
+-- the costs of some expressions on a frame together, where each has one
+abbrev pub costs_on : List Tree → Frame → Option ℕ
+costs_on es frame = option_map sum (each (λ e. cost_on e frame) es)
+
+-- the costs of some aggregations on n groups together
+abbrev pub group_costs : List Tree → ℕ → ℕ
+group_costs aggs n = sum_by (λ e. group_cost e n) aggs
+
+-- how many kernels a step runs at most on a frame: the costs of its expressions, an aggregation's on the groups by the keys. There
+-- is such a bound where each selection, mask and key has a cost, and no chunks are given
+abbrev pub most_kernels_in : PlainStep → Frame → Option ℕ
+most_kernels_in (select es) frame = costs_on es frame
+most_kernels_in (filter e) frame = cost_on e frame
+most_kernels_in (group keys aggs None) frame = option_map (λ n. n + group_costs aggs (length (frames_by frame keys))) (costs_on keys frame)
+most_kernels_in (group keys aggs (Some chunks)) frame = None
+
+-- how many kernels some steps run at most, each on the frame that those before it make, where each has such a bound
+abbrev pub most_kernels_of : List PlainStep → Frame → Option ℕ
+most_kernels_of [] frame = Some 0
+most_kernels_of (s ∷ steps) frame = do
+  n ← most_kernels_in s frame
+  next ← step_on s frame
+  more ← most_kernels_of steps next
+  Some (n + more)
+
+-- a count rose by no more than a bound, where there is one
+abbrev pub RisesAtMost : Option ℕ → ℕ → ℕ → Type 0
+RisesAtMost bound old new = IfSome bound (λ n. new ≤ old + n)

@@ -2,7 +2,8 @@
 use Rattle.std.specs.Prelude.{◌≡◌, ◌≤◌, ℕ, ◌+◌, List}
 use Rattle.px_document.specs.Label.{bad_document_line}
 use Rattle.px_document.specs.Document.{Doc}
-use Rattle.px_steps.specs.Plain.{groupings_of, kernels_of}
+use Rattle.px_frame.specs.External.{alone}
+use Rattle.px_steps.specs.Plain.{RisesAtMost, groupings_of, kernels_of, most_kernels_of}
 use Rattle.px_document.specs.DocumentText.{IsDocument}
 use Rattle.px_steps.specs.Reply.{IsResult, IsRefusal, IsNoDocument}
 use Rattle.px_steps.specs.declared.reply.Reply.{Reply}
@@ -25,3 +26,9 @@ abbrev pub Ticked : List ℕ → Reply → ℕ → ℕ → Type 0
 Ticked bytes (Frame text) old new = (doc : Doc) → IsDocument bytes doc → old + kernels_of doc.steps ≤ new
 Ticked bytes (Refusal text) old new = Unit {0}
 Ticked bytes BadDocument old new = Unit {0}
+
+-- and by at most the kernels that these run, where there is such a bound
+abbrev pub Bounded : List ℕ → Reply → ℕ → ℕ → Type 0
+Bounded bytes (Frame text) old new = (doc : Doc) → IsDocument bytes doc → RisesAtMost (most_kernels_of doc.steps (alone doc.columns)) old new
+Bounded bytes (Refusal text) old new = Unit {0}
+Bounded bytes BadDocument old new = Unit {0}

@@ -1,29 +1,35 @@
 //! A filter step: the rows of a frame whose mask is true.
 ghost use Rattle.std.specs.Prelude.{◌≡◌, ◌+◌, ◌≤◌, Some, OnOk, true};
+ghost use Rattle.px_expr.specs.NodeView.{plan_of};
+ghost use Rattle.px_expr.specs.Plan.{planned_over};
+ghost use Rattle.px_frame.specs.External.{alone};
 ghost use Rattle.px_tree.specs.Built.{is_built_tree};
 ghost use Rattle.px_tree.specs.Step.{filter};
 ghost use Rattle.px_tree.specs.View.{tree};
 ghost use Rattle.px_steps.specs.Causes.{StepAnswers};
 ghost use Rattle.px_steps.specs.Finds.{mask_refusals};
-ghost use Rattle.px_steps.specs.Meets.{Meets};
-ghost use Rattle.px_steps.specs.Plain.{kernels_in};
+ghost use Rattle.px_steps.specs.Meets.{MeetsBy};
+ghost use Rattle.px_steps.specs.Plain.{RisesAtMost, kernels_in, most_kernels_in};
 
-use crate::planning::spread_value;
+use crate::planning::{plan_expr, spread_value};
 use px_column::{Px, PxError, Steps, is_boolean};
+use px_expr::{PhysExpr, PhysicalExpr};
 use px_frame::{DataFrame, SchemaRef};
-use px_plan::{Context, Expr, type_of};
+use px_plan::{Context, Expr};
 use px_window::ExecutionState;
 use std::alloc::Global;
 use std::rc::Rc;
 use std::sync::ledger::Ledger;
 
-/// Nothing, unless a mask is refused over a schema, or has no truths.
-fn accept_mask(alloc: Global, mask: &Expr, schema: &SchemaRef) -> Px<()>
+/// The node of a mask over a schema, unless it is refused or has no truths.
+fn plan_mask(alloc: Global, mask: &Expr, schema: &SchemaRef) -> Px<PhysExpr>
     requires { is_built_tree (tree mask.now) ≡ true }
-    ensures { Meets result (mask_refusals schema.now.value (tree mask.now)) (Some tt) }
+    ensures { MeetsBy plan_of result (mask_refusals schema.now.value (tree mask.now)) (Some (planned_over schema.now.value (tree mask.now))) }
 {
-    if is_boolean(&type_of(alloc, mask, schema, Context::Default)?) {
-        Ok(())
+    let node = plan_expr(alloc, mask, schema, Context::Default)?;
+    let field = node.to_field(alloc, schema)?;
+    if is_boolean(&field.dtype) {
+        Ok(node)
     } else {
         Err(PxError::SchemaMismatch)
     }
@@ -45,9 +51,10 @@ pub(crate) fn filter_step<L: Ledger, M: Ledger>(
     ensures state { state.new ≡ state.old }
     ensures grouped { groupings.new ≡ groupings.old }
     ensures ticks { OnOk result (kernels.old + kernels_in (filter (tree mask.now)) ≤ kernels.new) }
+    ensures most { OnOk result (RisesAtMost (most_kernels_in (filter (tree mask.now)) (alone frame.now)) kernels.old kernels.new) }
 {
     let schema = Rc::new(alloc, frame.schema(alloc)?)?;
-    accept_mask(alloc, mask, &schema)?;
-    let truths = spread_value(alloc, frame, mask, &schema, state, kernels, groupings)?;
+    let node = plan_mask(alloc, mask, &schema)?;
+    let truths = spread_value(alloc, frame, &node, state, kernels, groupings)?;
     frame.filter(alloc, &truths)
 }

@@ -4,7 +4,7 @@ ghost use Rattle.std.specs.List.{flat_map, list_all, sum_by};
 ghost use Rattle.px_column.specs.Prelude.{Answers};
 ghost use Rattle.px_column.specs.Option.{each};
 ghost use Rattle.px_tree.specs.Built.{is_built_tree};
-ghost use Rattle.px_expr.specs.Counted.{flat_kernels};
+ghost use Rattle.px_answers.specs.Counted.{flat_kernels};
 ghost use Rattle.px_frame.specs.Aggregate.{has_row};
 ghost use Rattle.px_frame.specs.External.{alone};
 ghost use Rattle.px_frame.specs.Frame.{first_repeat, height_of, names_of};
@@ -13,71 +13,63 @@ ghost use Rattle.px_frame.specs.Parts.{parts_of};
 ghost use Rattle.px_frame.specs.Schema.{column_field};
 ghost use Rattle.px_tree.specs.Shape.{name_of};
 ghost use Rattle.px_tree.specs.Size.{size_on};
-ghost use Rattle.px_tree.specs.Typing.{refusals_of};
 ghost use Rattle.px_tree.specs.View.{tree};
-ghost use Rattle.px_tree.specs.declared.context.Context.TheVariants.{Aggregation};
+ghost use Rattle.px_tree.specs.declared.context.Context.TheVariants.{Aggregation, Default};
+ghost use Rattle.px_expr.specs.NodeView.{plan_of};
+ghost use Rattle.px_expr.specs.Plan.{planned_over};
 ghost use Rattle.px_steps.specs.Finds.{is_key};
 ghost use Rattle.px_steps.specs.Causes.{StepAnswers};
-ghost use Rattle.px_steps.specs.Finds.{Finds, FindsBy, key_faults, part_faults, part_frames, typed_key_refusals};
+ghost use Rattle.px_steps.specs.Finds.{AreAccepted, Finds, FindsBy, group_plans, key_faults, node_tree, part_faults, part_frames, plans_over, typed_key_refusals};
 ghost use Rattle.px_document.specs.Form.{with_front};
 ghost use Rattle.px_steps.specs.Meets.{Meets, MeetsBy};
-ghost use Rattle.px_steps.specs.Plain.{agg_refusals, aggregated_on, columns_on, greatest, kernels_in, key_on, key_refusals, repeat_refusal, step_refusals};
+ghost use Rattle.px_steps.specs.Plain.{RisesAtMost, aggregated_on, columns_on, costs_on, greatest, group_costs, kernels_in, key_on, most_kernels_in, repeat_refusal, step_refusals};
 ghost use Rattle.px_tree.specs.Step.{group};
 
 use crate::aggregation::aggregate;
-use crate::planning::{add_names, spread_value};
+use crate::planning::{add_names, plan_all, plan_expr, spread_value};
 use indexmap::IndexSet;
 use px_column::{Column, ComputeWhy, InvalidWhy, Px, PxError, Steps};
+use px_expr::{PhysExpr, PhysicalExpr};
 use px_frame::{DataFrame, GroupPositions, SchemaRef, group_by, key_rows};
-use px_plan::{Context, Expr, type_of};
+use px_plan::{Context, Expr};
 use px_window::ExecutionState;
 use std::alloc::Global;
 use std::rc::Rc;
 use std::sync::ledger::Ledger;
 
-/// Nothing, unless a key is refused over a schema, or is a list.
-fn accept_key(alloc: Global, key: &Expr, schema: &SchemaRef) -> Px<()>
+/// The nodes of a group step's expressions.
+#[derive(Drop)]
+struct GroupNodes {
+    keys: Vec<PhysExpr>,
+    aggs: Vec<PhysExpr>,
+}
+
+/// The node of a key over a schema, unless it is refused or is a list.
+fn plan_key(alloc: Global, key: &Expr, schema: &SchemaRef) -> Px<PhysExpr>
     requires { is_built_tree (tree key.now) ≡ true }
-    ensures { Meets result (typed_key_refusals schema.now.value (tree key.now)) (Some tt) }
+    ensures { MeetsBy plan_of result (typed_key_refusals schema.now.value (tree key.now)) (Some (planned_over schema.now.value (tree key.now))) }
 {
-    if type_of(alloc, key, schema, Context::Default)?.is_list() {
+    let node = plan_expr(alloc, key, schema, Context::Default)?;
+    let field = node.to_field(alloc, schema)?;
+    if field.dtype.is_list() {
         Err(PxError::InvalidOperation(InvalidWhy::ListKey))
     } else {
-        Ok(())
+        Ok(node)
     }
 }
 
-/// Nothing, unless one of the keys is refused; the first from the left decides.
+/// The nodes of the keys over a schema, in their order, or the first refusal from the left.
 #[tactic(auto, using(crate::proofs::Named::IsFirst_append))]
-fn accept_keys(alloc: Global, keys: &[Expr], schema: &SchemaRef) -> Px<()>
+fn plan_keys(alloc: Global, keys: &[Expr], schema: &SchemaRef) -> Px<Vec<PhysExpr>>
     requires { list_all is_built_tree (map tree keys.now) ≡ true }
-    ensures { Meets result (flat_map (typed_key_refusals schema.now.value) (map tree keys.now)) (Some tt) }
+    ensures { MeetsBy (λ v. map plan_of v.items) result (flat_map (typed_key_refusals schema.now.value) (map tree keys.now))
+        (Some (map (planned_over schema.now.value) (map tree keys.now))) }
 {
+    let mut nodes = Vec::with_capacity(alloc, keys.len())?;
     for key in keys {
-        accept_key(alloc, key, schema)?;
+        nodes.push(plan_key(alloc, key, schema)?)?;
     }
-    Ok(())
-}
-
-/// Nothing, unless an aggregation is refused on groups over a schema.
-fn accept_aggregation(alloc: Global, expr: &Expr, schema: &SchemaRef) -> Px<()>
-    requires { is_built_tree (tree expr.now) ≡ true }
-    ensures { Meets result (refusals_of (tree expr.now) schema.now.value Aggregation) (Some tt) }
-{
-    let _ = type_of(alloc, expr, schema, Context::Aggregation)?;
-    Ok(())
-}
-
-/// Nothing, unless one of the aggregations is refused; the first from the left decides.
-#[tactic(auto, using(crate::proofs::Named::IsFirst_append))]
-fn accept_aggregations(alloc: Global, aggs: &[Expr], schema: &SchemaRef) -> Px<()>
-    requires { list_all is_built_tree (map tree aggs.now) ≡ true }
-    ensures { Meets result (flat_map (λ t. refusals_of t schema.now.value Aggregation) (map tree aggs.now)) (Some tt) }
-{
-    for expr in aggs {
-        accept_aggregation(alloc, expr, schema)?;
-    }
-    Ok(())
+    Ok(nodes)
 }
 
 /// Nothing, unless a name stands twice among the keys and then the aggregations.
@@ -89,44 +81,46 @@ fn distinct_names(alloc: Global, keys: &[Expr], aggs: &[Expr]) -> Px<()>
     add_names(alloc, &mut names, aggs)
 }
 
-/// The names and types of a frame, or the first refusal of the step over them.
-fn accept_step(alloc: Global, frame: &DataFrame, keys: &[Expr], aggs: &[Expr]) -> Px<SchemaRef>
+/// The nodes of a step over a frame, or the first refusal of the step.
+fn plan_step(alloc: Global, frame: &DataFrame, keys: &[Expr], aggs: &[Expr]) -> Px<GroupNodes>
     requires keys { list_all is_built_tree (map tree keys.now) ≡ true }
     requires aggs { list_all is_built_tree (map tree aggs.now) ≡ true }
-    ensures { MeetsBy (λ s. s.value) result (step_refusals (group (map tree keys.now) (map tree aggs.now) None) (alone frame.now)) (Some (map column_field frame.now)) }
+    ensures { MeetsBy group_plans result (step_refusals (group (map tree keys.now) (map tree aggs.now) None) (alone frame.now))
+        (Some (plans_over (map column_field frame.now) (map tree keys.now) (map tree aggs.now))) }
 {
     let schema = Rc::new(alloc, frame.schema(alloc)?)?;
     if keys.is_empty() {
         return Err(PxError::ComputeError(ComputeWhy::NoKey));
     }
-    accept_keys(alloc, keys, &schema)?;
-    accept_aggregations(alloc, aggs, &schema)?;
+    let key_nodes = plan_keys(alloc, keys, &schema)?;
+    let agg_nodes = plan_all(alloc, aggs, &schema, Context::Aggregation)?;
     distinct_names(alloc, keys, aggs)?;
-    Ok(schema)
+    Ok(GroupNodes {
+        keys: key_nodes,
+        aggs: agg_nodes,
+    })
 }
 
 /// The keys' values, each brought to the frame's height.
 fn key_columns<L: Ledger, M: Ledger>(
     alloc: Global,
     frame: &DataFrame,
-    keys: &[Expr],
-    schema: &SchemaRef,
+    keys: &[PhysExpr],
     state: &mut ExecutionState,
     kernels: &mut Steps<L>,
     groupings: &mut Steps<M>,
 ) -> Px<Vec<Column>>
-    requires built { list_all is_built_tree (map tree keys.now) ≡ true }
-    requires scope { schema.now.value ≡ map column_field frame.now }
-    requires accepted { flat_map (key_refusals (alone frame.now)) (map tree keys.now) ≡ [] }
-    ensures answer { FindsBy (λ v. v.items) result (each (key_on (alone frame.now)) (map tree keys.now))
-        (flat_map (key_faults (alone frame.now)) (map tree keys.now)) (greatest (map (λ t. size_on t (alone frame.now ∷ [])) (map tree keys.now))) }
+    requires { AreAccepted (map plan_of keys.now) frame.now Default }
+    ensures answer { FindsBy (λ v. v.items) result (each (key_on (alone frame.now)) (map node_tree keys.now))
+        (flat_map (key_faults (alone frame.now)) (map node_tree keys.now)) (greatest (map (λ t. size_on t (alone frame.now ∷ [])) (map node_tree keys.now))) }
     ensures state { state.new ≡ state.old }
     ensures grouped { groupings.new ≡ groupings.old }
-    ensures ticks { OnOk result (kernels.old + sum_by flat_kernels (map tree keys.now) ≤ kernels.new) }
+    ensures ticks { OnOk result (kernels.old + sum_by flat_kernels (map node_tree keys.now) ≤ kernels.new) }
+    ensures most { OnOk result (RisesAtMost (costs_on (map node_tree keys.now) (alone frame.now)) kernels.old kernels.new) }
 {
     let mut columns = Vec::with_capacity(alloc, keys.len())?;
     for key in keys {
-        columns.push(spread_value(alloc, frame, key, schema, state, kernels, groupings)?)?;
+        columns.push(spread_value(alloc, frame, key, state, kernels, groupings)?)?;
     }
     Ok(columns)
 }
@@ -137,27 +131,23 @@ fn push_aggregations<L: Ledger, M: Ledger>(
     columns: &mut Vec<Column>,
     frame: &DataFrame,
     groups: &GroupPositions,
-    aggs: &[Expr],
-    schema: &SchemaRef,
+    aggs: &[PhysExpr],
     state: &mut ExecutionState,
     kernels: &mut Steps<L>,
     groupings: &mut Steps<M>,
 ) -> Px<()>
-    requires built { list_all is_built_tree (map tree aggs.now) ≡ true }
-    requires scope { schema.now.value ≡ map column_field frame.now }
-    requires accepted { flat_map (agg_refusals (alone frame.now)) (map tree aggs.now) ≡ [] }
+    requires accepted { AreAccepted (map plan_of aggs.now) frame.now Aggregation }
     requires height { groups.now.height ≡ height_of frame.now }
-    requires columns { frame.now ≡ [] → groups.now.groups ≡ [] }
-    ensures answer { FindsBy (λ _. columns.new.items) result (with_front columns.old.items (each (aggregated_on (alone frame.now) (rows_of groups.now)) (map tree aggs.now)))
-        (flat_map (part_faults (alone frame.now) (rows_of groups.now)) (map tree aggs.now)) (greatest (map (λ t. size_on t (part_frames (alone frame.now) (rows_of groups.now))) (map tree aggs.now))) }
+    ensures answer { FindsBy (λ _. columns.new.items) result (with_front columns.old.items (each (aggregated_on (alone frame.now) (rows_of groups.now)) (map node_tree aggs.now)))
+        (flat_map (part_faults (alone frame.now) (rows_of groups.now)) (map node_tree aggs.now)) (greatest (map (λ t. size_on t (part_frames (alone frame.now) (rows_of groups.now))) (map node_tree aggs.now))) }
     ensures state { state.new ≡ state.old }
     ensures grouped { groupings.new ≡ groupings.old }
-    ensures rises { OnOk result (kernels.old ≤ kernels.new) }
+    ensures ticks { OnOk result (kernels.old + sum_by flat_kernels (map node_tree aggs.now) ≤ kernels.new) }
+    ensures most { OnOk result (kernels.new ≤ kernels.old + group_costs (map node_tree aggs.now) (length groups.now.groups)) }
 {
-    for expr in aggs {
-        columns.push(aggregate(
-            alloc, frame, groups, expr, schema, state, kernels, groupings,
-        )?)?;
+    for node in aggs {
+        let column = aggregate(alloc, frame, groups, node, state, kernels, groupings)?;
+        columns.push(column)?;
     }
     Ok(())
 }
@@ -185,25 +175,23 @@ fn grouped_frame<L: Ledger, M: Ledger>(
     alloc: Global,
     frame: &DataFrame,
     by: &[Column],
-    aggs: &[Expr],
-    schema: &SchemaRef,
+    aggs: &[PhysExpr],
     state: &mut ExecutionState,
     kernels: &mut Steps<L>,
     groupings: &mut Steps<M>,
 ) -> Px<DataFrame>
     requires some { 0 < length by.now }
     requires keys { list_all (is_key frame.now) by.now ≡ true }
-    requires names { first_repeat [] (names_of by.now ++ map name_of (map tree aggs.now)) ≡ None }
-    requires built { list_all is_built_tree (map tree aggs.now) ≡ true }
-    requires scope { schema.now.value ≡ map column_field frame.now }
-    requires accepted { flat_map (agg_refusals (alone frame.now)) (map tree aggs.now) ≡ [] }
-    ensures answer { Finds result (columns_on (alone frame.now) (map tree aggs.now) by.now)
-        (flat_map (part_faults (alone frame.now) (parts_of by.now (height_of frame.now))) (map tree aggs.now))
-        (greatest (map (λ t. size_on t (part_frames (alone frame.now) (parts_of by.now (height_of frame.now)))) (map tree aggs.now))) }
+    requires names { first_repeat [] (names_of by.now ++ map name_of (map node_tree aggs.now)) ≡ None }
+    requires accepted { AreAccepted (map plan_of aggs.now) frame.now Aggregation }
+    ensures answer { Finds result (columns_on (alone frame.now) (map node_tree aggs.now) by.now)
+        (flat_map (part_faults (alone frame.now) (parts_of by.now (height_of frame.now))) (map node_tree aggs.now))
+        (greatest (map (λ t. size_on t (part_frames (alone frame.now) (parts_of by.now (height_of frame.now)))) (map node_tree aggs.now))) }
     ensures short { IfOk result (λ f. height_of f < 2 ^ 32) }
     ensures state { state.new ≡ state.old }
     ensures grouped { groupings.new ≡ groupings.old + 1 }
-    ensures rises { OnOk result (kernels.old ≤ kernels.new) }
+    ensures ticks { OnOk result (kernels.old + sum_by flat_kernels (map node_tree aggs.now) ≤ kernels.new) }
+    ensures most { OnOk result (kernels.new ≤ kernels.old + group_costs (map node_tree aggs.now) (length (parts_of by.now (height_of frame.now)))) }
 {
     let groups = grouping(alloc, frame, by, groupings)?;
     let mut columns = key_rows(alloc, by, &groups)?;
@@ -213,7 +201,6 @@ fn grouped_frame<L: Ledger, M: Ledger>(
         frame,
         &groups,
         aggs,
-        schema,
         state,
         kernels,
         groupings,
@@ -221,7 +208,7 @@ fn grouped_frame<L: Ledger, M: Ledger>(
     DataFrame::new(alloc, columns)
 }
 
-/// The frame of the groups by these keys. All expressions are typed before the first is evaluated:
+/// The frame of the groups by these keys. All expressions are planned before the first is evaluated:
 /// `NoKey` without a key, then the first refusal of a key or an aggregation from the left, then
 /// `Duplicate` with the first name that stands twice; then the faults of values.
 pub(crate) fn group_step<L: Ledger, M: Ledger>(
@@ -240,8 +227,9 @@ pub(crate) fn group_step<L: Ledger, M: Ledger>(
     ensures grouped { OnOk result (groupings.new ≡ groupings.old + 1) }
     ensures once { groupings.new ≤ groupings.old + 1 }
     ensures ticks { OnOk result (kernels.old + kernels_in (group (map tree keys.now) (map tree aggs.now) None) ≤ kernels.new) }
+    ensures most { OnOk result (RisesAtMost (most_kernels_in (group (map tree keys.now) (map tree aggs.now) None) (alone frame.now)) kernels.old kernels.new) }
 {
-    let schema = accept_step(alloc, frame, keys, aggs)?;
-    let by = key_columns(alloc, frame, keys, &schema, state, kernels, groupings)?;
-    grouped_frame(alloc, frame, &by, aggs, &schema, state, kernels, groupings)
+    let nodes = plan_step(alloc, frame, keys, aggs)?;
+    let by = key_columns(alloc, frame, &nodes.keys, state, kernels, groupings)?;
+    grouped_frame(alloc, frame, &by, &nodes.aggs, state, kernels, groupings)
 }

@@ -1,18 +1,20 @@
 //! Expressions as nodes, and what these give on a frame.
 ghost use Rattle.std.specs.Prelude.{◌≡◌, ◌+◌, ◌≤◌, ◌++◌, ◌∷◌, [], Some, OnOk, map, true};
+ghost use Rattle.std.specs.List.{flat_map, list_all};
 ghost use Rattle.px_tree.specs.Built.{is_built_tree};
-ghost use Rattle.px_expr.specs.Counted.{flat_kernels};
+ghost use Rattle.px_answers.specs.Counted.{flat_kernels};
 ghost use Rattle.px_expr.specs.NodeView.{plan_of};
 ghost use Rattle.px_expr.specs.Plan.{planned_over};
 ghost use Rattle.px_frame.specs.External.{alone};
-ghost use Rattle.px_frame.specs.Schema.{column_field};
+ghost use Rattle.px_tree.specs.Cost.{cost_on};
 ghost use Rattle.px_tree.specs.Shape.{name_of};
 ghost use Rattle.px_tree.specs.Size.{size_on};
 ghost use Rattle.px_tree.specs.Typing.{refusals_of};
 ghost use Rattle.px_tree.specs.View.{tree};
-ghost use Rattle.px_steps.specs.Finds.{Finds, key_faults, repeat_beside};
+ghost use Rattle.px_tree.specs.declared.context.Context.TheVariants.{Default};
+ghost use Rattle.px_steps.specs.Finds.{Finds, IsAccepted, key_faults, node_tree, repeat_beside};
 ghost use Rattle.px_steps.specs.Meets.{Meets, MeetsBy};
-ghost use Rattle.px_steps.specs.Plain.{frame_refusals, key_on};
+ghost use Rattle.px_steps.specs.Plain.{RisesAtMost, key_on};
 
 use indexmap::IndexSet;
 use px_column::{Column, Name, Px, PxError, Steps};
@@ -44,6 +46,25 @@ pub(crate) fn plan_expr(
     create_physical_expr(alloc, &expr_ir, context, &arena, schema, &mut noted)
 }
 
+/// The nodes of some expressions over a schema, in their order, or the first refusal from the left.
+#[tactic(auto, using(crate::proofs::Named::IsFirst_append))]
+pub(crate) fn plan_all(
+    alloc: Global,
+    exprs: &[Expr],
+    schema: &SchemaRef,
+    context: Context,
+) -> Px<Vec<PhysExpr>>
+    requires { list_all is_built_tree (map tree exprs.now) ≡ true }
+    ensures { MeetsBy (λ v. map plan_of v.items) result (flat_map (λ t. refusals_of t schema.now.value context) (map tree exprs.now))
+        (Some (map (planned_over schema.now.value) (map tree exprs.now))) }
+{
+    let mut nodes = Vec::with_capacity(alloc, exprs.len())?;
+    for expr in exprs {
+        nodes.push(plan_expr(alloc, expr, schema, context)?)?;
+    }
+    Ok(nodes)
+}
+
 /// Adds the expressions' names to some names; `Duplicate` with the first that stands there already.
 pub(crate) fn add_names(alloc: Global, names: &mut IndexSet<Name>, exprs: &[Expr]) -> Px<()>
     ensures answer { Meets result (repeat_beside names.old.keys (map tree exprs.now)) (Some tt) }
@@ -55,25 +76,22 @@ pub(crate) fn add_names(alloc: Global, names: &mut IndexSet<Name>, exprs: &[Expr
     Ok(())
 }
 
-/// The value of an expression that is not refused, brought to the frame's height.
+/// A node's value, brought to the frame's height.
 pub(crate) fn spread_value<L: Ledger, M: Ledger>(
     alloc: Global,
     frame: &DataFrame,
-    expr: &Expr,
-    schema: &SchemaRef,
+    node: &PhysExpr,
     state: &mut ExecutionState,
     kernels: &mut Steps<L>,
     groupings: &mut Steps<M>,
 ) -> Px<Column>
-    requires built { is_built_tree (tree expr.now) ≡ true }
-    requires scope { schema.now.value ≡ map column_field frame.now }
-    requires accepted { frame_refusals (alone frame.now) (tree expr.now) ≡ [] }
-    ensures answer { Finds result (key_on (alone frame.now) (tree expr.now)) (key_faults (alone frame.now) (tree expr.now)) (size_on (tree expr.now) (alone frame.now ∷ [])) }
+    requires { IsAccepted (plan_of node.now) frame.now Default }
+    ensures answer { Finds result (key_on (alone frame.now) (node_tree node.now)) (key_faults (alone frame.now) (node_tree node.now)) (size_on (node_tree node.now) (alone frame.now ∷ [])) }
     ensures state { state.new ≡ state.old }
     ensures grouped { groupings.new ≡ groupings.old }
-    ensures ticks { OnOk result (kernels.old + flat_kernels (tree expr.now) ≤ kernels.new) }
+    ensures ticks { OnOk result (kernels.old + flat_kernels (node_tree node.now) ≤ kernels.new) }
+    ensures most { OnOk result (RisesAtMost (cost_on (node_tree node.now) (alone frame.now)) kernels.old kernels.new) }
 {
-    let node = plan_expr(alloc, expr, schema, Context::Default)?;
-    let cell = evaluate_cell(alloc, &node, frame, state, kernels, groupings)?;
+    let cell = evaluate_cell(alloc, node, frame, state, kernels, groupings)?;
     spread(alloc, cell, frame.height())
 }

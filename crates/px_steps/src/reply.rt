@@ -3,7 +3,7 @@ ghost use Rattle.std.specs.Prelude.{◌≡◌, ℕ, List, IfOk, OnOk};
 ghost use Rattle.px_value.specs.declared.error.PxError.TheVariants.{OutOfMemory};
 ghost use Rattle.px_frame.specs.Frame.{height_of};
 ghost use Rattle.px_document.specs.Label.{line_of};
-ghost use Rattle.px_steps.specs.Replies.{Grouped, Replies, Ticked};
+ghost use Rattle.px_steps.specs.Replies.{Bounded, Grouped, Replies, Ticked};
 ghost use Rattle.px_document.specs.Text.{text_of};
 ghost use Rattle.px_steps.specs.declared.reply.Reply.TheVariants.{Frame, Refusal};
 
@@ -66,6 +66,7 @@ pub(crate) fn reply_to<L: Ledger, M: Ledger>(
     ensures reply { IfOk result (λ r. Replies bytes.now r) }
     ensures grouped { IfOk result (λ r. Grouped bytes.now r groupings.old groupings.new) }
     ensures ticks { IfOk result (λ r. Ticked bytes.now r kernels.old kernels.new) }
+    ensures most { IfOk result (λ r. Bounded bytes.now r kernels.old kernels.new) }
 {
     let document = match read_document(alloc, bytes) {
         Ok(document) => document,

@@ -4,7 +4,7 @@ ghost use Rattle.px_document.specs.Document.{Doc};
 ghost use Rattle.px_ends.specs.Ends.{GivesFront, Rose, TakesAll, TakesPart};
 ghost use Rattle.px_document.specs.Label.{bad_document_line};
 ghost use Rattle.px_frame.specs.External.{alone};
-ghost use Rattle.px_steps.specs.Plain.{AreValid, groupings_of, kernels_of};
+ghost use Rattle.px_steps.specs.Plain.{AreValid, RisesAtMost, groupings_of, kernels_of, most_kernels_of};
 ghost use Rattle.px_document.specs.DocumentText.{IsDocument};
 ghost use Rattle.px_steps.specs.Run.{Calm, Ends, IsCommand, Silent};
 
@@ -66,6 +66,10 @@ fn answer<K: Sink, L: Ledger, M: Ledger>(
         result ≡ Status.Done →
         IsDocument bytes.now doc →
         kernels.old + kernels_of doc.steps ≤ kernels.new }
+    ensures most { (doc : Doc) →
+        result ≡ Status.Done →
+        IsDocument bytes.now doc →
+        RisesAtMost (most_kernels_of doc.steps (alone doc.columns)) kernels.old kernels.new }
 {
     match reply_to(alloc, bytes, kernels, groupings) {
         Ok(Reply::Frame(text)) => write_text(sink, text.as_slice(), Status::Done),
@@ -108,6 +112,11 @@ fn run_command<S: Source, K: Sink, L: Ledger, M: Ledger>(
         S.left source.old ≡ Some b →
         IsDocument b doc →
         kernels.old + kernels_of doc.steps ≤ kernels.new }
+    ensures most { (b : List ℕ) (doc : Doc) →
+        result ≡ Status.Done →
+        S.left source.old ≡ Some b →
+        IsDocument b doc →
+        RisesAtMost (most_kernels_of doc.steps (alone doc.columns)) kernels.old kernels.new }
 {
     match read_all(alloc, source) {
         Ok(bytes) => answer(alloc, &bytes, sink, kernels, groupings),
@@ -172,13 +181,18 @@ pub fn run<S: Source, K: Sink, L: Ledger, M: Ledger>(
         S.left source.old ≡ Some b →
         IsDocument b doc →
         groupings.new ≡ groupings.old + groupings_of doc.steps }
-    // Kernels run at least once for each node that has one in a flat expression of a select or filter step
-    // or of a key.
+    // Kernels run at least once for each node that has one in a flat expression.
     ensures ticks { (b : List ℕ) (doc : Doc) →
         result ≡ Status.Done →
         S.left source.old ≡ Some b →
         IsDocument b doc →
         kernels.old + kernels_of doc.steps ≤ kernels.new }
+    // And at most as often as the costs of the expressions say, where each has one.
+    ensures most { (b : List ℕ) (doc : Doc) →
+        result ≡ Status.Done →
+        S.left source.old ≡ Some b →
+        IsDocument b doc →
+        RisesAtMost (most_kernels_of doc.steps (alone doc.columns)) kernels.old kernels.new }
 {
     if is_command(words) {
         run_command(alloc, source, sink, kernels, groupings)

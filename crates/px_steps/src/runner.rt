@@ -5,7 +5,7 @@ ghost use Rattle.px_value.specs.declared.error.PxError.TheVariants.{OutOfMemory}
 ghost use Rattle.px_frame.specs.External.{alone};
 ghost use Rattle.px_tree.specs.Built.{is_built};
 ghost use Rattle.px_steps.specs.Causes.{AreRun, IsCauseIn, StepAnswers, StepsAnswer};
-ghost use Rattle.px_steps.specs.Plain.{AreValid, groupings_in, groupings_of, kernels_in, kernels_of, plain_on};
+ghost use Rattle.px_steps.specs.Plain.{AreValid, RisesAtMost, groupings_in, groupings_of, kernels_in, kernels_of, most_kernels_in, most_kernels_of, plain_on};
 ghost use Rattle.px_tree.specs.Step.{step_view};
 
 use crate::filter_step::filter_step;
@@ -32,6 +32,7 @@ fn run_step<L: Ledger, M: Ledger>(
     ensures state { state.new ≡ state.old }
     ensures grouped { OnOk result (groupings.new ≡ groupings.old + groupings_in (step_view step.now)) }
     ensures ticks { OnOk result (kernels.old + kernels_in (step_view step.now) ≤ kernels.new) }
+    ensures most { OnOk result (RisesAtMost (most_kernels_in (step_view step.now) (alone frame.now)) kernels.old kernels.new) }
 {
     match step {
         Step::Select(exprs) => select_step(alloc, frame, exprs, state, kernels, groupings),
@@ -56,6 +57,7 @@ fn run_each<L: Ledger, M: Ledger>(
     ensures state { state.new ≡ state.old }
     ensures grouped { OnOk result (groupings.new ≡ groupings.old + groupings_of (map step_view steps.now)) }
     ensures ticks { OnOk result (kernels.old + kernels_of (map step_view steps.now) ≤ kernels.new) }
+    ensures most { OnOk result (RisesAtMost (most_kernels_of (map step_view steps.now) (alone frame)) kernels.old kernels.new) }
 {
     let mut frame = frame;
     for step in steps {
@@ -88,9 +90,10 @@ pub fn run_steps<L: Ledger, M: Ledger>(
     ensures state { state.new ≡ state.old }
     // Groups are formed once for each group step.
     ensures grouped { OnOk result (groupings.new ≡ groupings.old + groupings_of (map step_view steps.now)) }
-    // Kernels run at least once for each node that has one in a flat expression of a select or filter step
-    // or of a key.
+    // Kernels run at least once for each node that has one in a flat expression.
     ensures ticks { OnOk result (kernels.old + kernels_of (map step_view steps.now) ≤ kernels.new) }
+    // And at most as often as the costs of the expressions say, where each has one.
+    ensures most { OnOk result (RisesAtMost (most_kernels_of (map step_view steps.now) (alone frame.now)) kernels.old kernels.new) }
 {
     match steps {
         [] => frame.try_clone(alloc),

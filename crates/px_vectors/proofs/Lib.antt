@@ -4,6 +4,4 @@ pub mod PlainKeys
 pub mod Told
 pub mod PlainParts
 pub mod PlainValues
-pub mod PlainNames
 pub mod PlainAnswer
-pub mod PlainWhole

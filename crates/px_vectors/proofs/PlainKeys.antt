@@ -1,51 +1,38 @@
--- A key as a column, or why it is refused.
-use Rattle.std.proofs.Common.{◌≡◌, ℕ, true, false, List, [], ◌∷◌, Some, None, refl}
-use Rattle.px_column.specs.Prelude.{Kind, booleans, int8s, int16s, int32s, int64s, uint8s, uint16s, uint32s, uint64s, strings, binaries, nulls, lists, is_list_kind, Series}
+-- A column that is found by its name, and a key as a column, or why it is refused.
+use Rattle.std.proofs.Common.{◌≡◌, ℕ, ◌==◌, Bool, true, false, not, List, [], ◌∷◌, Some, None, length, map, option_map, refl, sym, ◌∙◌, ap}
+use Rattle.px_column.specs.Prelude.{Kind, is_list_kind, Series}
 use Rattle.px_value.specs.declared.error.PxError.TheVariants.{ColumnNotFound, InvalidOperation}
 use Rattle.px_value.specs.declared.error.InvalidWhy.TheVariants.{ListKey}
-use Rattle.px_frame.specs.Frame.{look}
+use Rattle.px_frame.specs.External.{alone}
+use Rattle.px_frame.specs.Frame.{height_of, look}
+use Rattle.px_frame.specs.Schema.{FieldKind, column_field}
+use Rattle.px_frame.proofs.LookLaws.{field_look, has_length}
 use Rattle.px_tree.specs.Tree.{column}
-use Rattle.px_steps.specs.Direct.{key_on, key_refusals, list_refusal}
-
-not_list : (k : Kind) → is_list_kind k ≡ false → list_refusal (Some k) ≡ []
-not_list booleans h = refl
-not_list int8s h = refl
-not_list int16s h = refl
-not_list int32s h = refl
-not_list int64s h = refl
-not_list uint8s h = refl
-not_list uint16s h = refl
-not_list uint32s h = refl
-not_list uint64s h = refl
-not_list strings h = refl
-not_list binaries h = refl
-not_list nulls h = refl
-not_list (lists k) h = cc
-
-a_list : (k : Kind) → is_list_kind k ≡ true → list_refusal (Some k) ≡ InvalidOperation ListKey ∷ []
-a_list (lists k) h = refl
-a_list booleans h = cc
-a_list int8s h = cc
-a_list int16s h = cc
-a_list int32s h = cc
-a_list int64s h = cc
-a_list uint8s h = cc
-a_list uint16s h = cc
-a_list uint32s h = cc
-a_list uint64s h = cc
-a_list strings h = cc
-a_list binaries h = cc
-a_list nulls h = cc
+use Rattle.px_tree.specs.Typing.{kind_of_name, refused_where}
+use Rattle.px_steps.specs.Plain.{key_on, key_refusals}
 
 module _ (frame : List Series) (n : List ℕ) where
-  pub key_found : (s : Series) → Some s ≡ look n frame → key_on frame (column n) ≡ Some (record s { name = n })
-  key_found s h = rw (← h) refl
+  -- the type of a name
+  pub kind_found : (s : Series) → Some s ≡ look n frame → kind_of_name n (map column_field frame) ≡ Some s.kind
+  kind_found s h = ap (option_map (λ (f : FieldKind). f.kind)) (field_look n frame ∙ ap (option_map column_field) (sym h))
 
-  pub key_passes : (s : Series) → Some s ≡ look n frame → is_list_kind s.kind ≡ false → key_refusals frame (column n) ≡ []
-  key_passes s h l = rw (← h) (not_list s.kind l)
+  pub kind_missing : None ≡ look n frame → kind_of_name n (map column_field frame) ≡ None
+  kind_missing h = ap (option_map (λ (f : FieldKind). f.kind)) (field_look n frame ∙ ap (option_map column_field) (sym h))
 
-  pub key_missing : None ≡ look n frame → key_refusals frame (column n) ≡ ColumnNotFound n ∷ []
-  key_missing h = rw (← h) refl
+  -- a key is the column of its name
+  pub key_found : (s : Series) → Some s ≡ look n frame → length s.slots ≡ height_of frame → key_on (alone frame) (column n) ≡ Some (record s { name = n })
+  key_found s h l =
+      let there : look n frame ≡ Some s = sym h in
+      let typed = kind_found s h in
+      let high : (length s.slots == height_of frame) ≡ true = has_length (height_of frame) s l in
+      rw (there, typed, high) refl
 
-  pub key_of_lists : (s : Series) → Some s ≡ look n frame → is_list_kind s.kind ≡ true → key_refusals frame (column n) ≡ InvalidOperation ListKey ∷ []
-  key_of_lists s h l = rw (← h) (a_list s.kind l)
+  -- and is not refused unless it is a list
+  pub key_passes : (s : Series) → Some s ≡ look n frame → is_list_kind s.kind ≡ false → key_refusals (alone frame) (column n) ≡ []
+  key_passes s h l = let typed = kind_found s h in rw typed (ap (λ (b : Bool). refused_where (not (not b)) (InvalidOperation ListKey)) l)
+
+  pub key_missing : None ≡ look n frame → key_refusals (alone frame) (column n) ≡ ColumnNotFound n ∷ []
+  key_missing h = let typed = kind_missing h in rw typed refl
+
+  pub key_of_lists : (s : Series) → Some s ≡ look n frame → is_list_kind s.kind ≡ true → key_refusals (alone frame) (column n) ≡ InvalidOperation ListKey ∷ []
+  key_of_lists s h l = let typed = kind_found s h in rw typed (ap (λ (b : Bool). refused_where (not (not b)) (InvalidOperation ListKey)) l)

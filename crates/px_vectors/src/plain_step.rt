@@ -8,14 +8,15 @@ ghost use Rattle.px_frame.specs.Cell.{value_of_cell};
 ghost use Rattle.px_frame.specs.External.{alone};
 ghost use Rattle.px_frame.specs.Frame.{are_below, height_of, series_at, slots_at, subframe};
 ghost use Rattle.px_frame.specs.Groups.{first_row};
-ghost use Rattle.px_steps.specs.Direct as direct;
-ghost use Rattle.px_steps.specs.Direct.{kind_on, value_on, agg_refusals, aggregated_on, columns_on, key_on, key_refusals, step_on, value_on_part};
+ghost use Rattle.px_frame.specs.Schema.{column_field};
 ghost use Rattle.px_tree.specs.Shape.{name_of};
 ghost use Rattle.px_tree.specs.Tree.{column};
 ghost use Rattle.px_column.specs.Option.{each};
 ghost use Rattle.px_steps.specs.Meets.{Meets, MeetsBy};
-ghost use Rattle.px_steps.specs.Plain.{columns_made, key_values, step_refusals};
-ghost use Rattle.px_vectors.specs.PlainStep.{IsPart, step_by, tree_of};
+ghost use Rattle.px_steps.specs.Plain.{agg_refusals, aggregated_on, columns_made, columns_on, key_on, key_refusals, key_values, step_refusals};
+ghost use Rattle.px_tree.specs.Typing.{kind_in};
+ghost use Rattle.px_tree.specs.Value.{value_on};
+ghost use Rattle.px_vectors.specs.PlainStep.{IsPart, step_by, tree_of, value_at_part};
 
 use crate::plain::plain_parts;
 use px_column::{
@@ -86,7 +87,7 @@ fn rows_of(alloc: Global, column: &Column, rows: &[u32]) -> Px<Column>
 
 /// A key as a column: `ColumnNotFound` where there is none, then `ListKey` where it is of a List type.
 fn key_column(alloc: Global, frame: &DataFrame, key: &Name) -> Px<Column>
-    ensures { Meets result (key_refusals frame.now (column key.now)) (key_on frame.now (column key.now)) }
+    ensures { Meets result (key_refusals (alone frame.now) (column key.now)) (key_on (alone frame.now) (column key.now)) }
 {
     let Some(column) = frame.column(key) else {
         return Err(PxError::ColumnNotFound(key.try_clone(alloc)?));
@@ -100,7 +101,7 @@ fn key_column(alloc: Global, frame: &DataFrame, key: &Name) -> Px<Column>
 }
 
 fn key_columns(alloc: Global, frame: &DataFrame, keys: &[Name]) -> Px<Vec<Column>>
-    ensures { MeetsBy (λ v. v.items) result (flat_map (key_refusals frame.now) (map column keys.now)) (each (key_on frame.now) (map column keys.now)) }
+    ensures { MeetsBy (λ v. v.items) result (flat_map (key_refusals (alone frame.now)) (map column keys.now)) (each (key_on (alone frame.now)) (map column keys.now)) }
 {
     let mut columns = Vec::new(alloc);
     for key in keys {
@@ -162,8 +163,8 @@ fn sum_of(alloc: Global, column: &Column) -> Px<Option<Value>>
 
 /// An aggregation's value on a frame, and a null where it has none.
 fn value_on(alloc: Global, frame: &DataFrame, agg: &Aggregation) -> Px<Option<Value>>
-    ensures value { AnswersBy slot_of result (Ok (option_map_or value_of_cell (value_on (tree_of agg.now) frame.now) None)) }
-    ensures fits { IfOk result (λ v. (k : Kind) → kind_on (tree_of agg.now) frame.now ≡ Some k → slot_fits k (slot_of v) ≡ true) }
+    ensures value { AnswersBy slot_of result (Ok (option_map_or value_of_cell (value_on (tree_of agg.now) (alone frame.now)) None)) }
+    ensures fits { IfOk result (λ v. (k : Kind) → kind_in (tree_of agg.now) (map column_field frame.now) ≡ Some k → slot_fits k (slot_of v) ≡ true) }
 {
     match agg {
         Aggregation::Len => Ok(Some(Value::Int(frame.height() as i128))),
@@ -177,7 +178,7 @@ fn value_on(alloc: Global, frame: &DataFrame, agg: &Aggregation) -> Px<Option<Va
 /// The type of an aggregation's values: `ColumnNotFound` where its column is not there, then `Types` where
 /// such values cannot be summed.
 fn type_on(alloc: Global, frame: &DataFrame, agg: &Aggregation) -> Px<DataType>
-    ensures { MeetsBy kind_of result (agg_refusals frame.now (tree_of agg.now)) (kind_on (tree_of agg.now) frame.now) }
+    ensures { MeetsBy kind_of result (agg_refusals (alone frame.now) (tree_of agg.now)) (kind_in (tree_of agg.now) (map column_field frame.now)) }
 {
     match agg {
         Aggregation::Len => Ok(DataType::UInt32),
@@ -207,8 +208,8 @@ fn part_values(
     agg: &Aggregation,
 ) -> Px<Vec<Option<Value>>>
     requires { All (λ p. IsPart (height_of frame.now) p.items) parts.now }
-    ensures values { AnswersBy (λ v. slots_of v.items) result (Ok (map (value_on_part frame.now (tree_of agg.now)) (map (λ p. p.items) parts.now))) }
-    ensures fit { IfOk result (λ v. (k : Kind) → kind_on (tree_of agg.now) frame.now ≡ Some k → slots_fit k (slots_of v.items) ≡ true) }
+    ensures values { AnswersBy (λ v. slots_of v.items) result (Ok (map (value_at_part frame.now (tree_of agg.now)) (map (λ p. p.items) parts.now))) }
+    ensures fit { IfOk result (λ v. (k : Kind) → kind_in (tree_of agg.now) (map column_field frame.now) ≡ Some k → slots_fit k (slots_of v.items) ≡ true) }
     ensures len { IfOk result (λ v. vec_len v ≡ length parts.now) }
 {
     let mut values = Vec::new(alloc);
@@ -223,7 +224,7 @@ fn part_values(
 fn aggregated(alloc: Global, frame: &DataFrame, parts: &[Vec<u32>], agg: &Aggregation) -> Px<Column>
     requires few { length parts.now < 2 ^ 32 }
     requires parts { All (λ p. IsPart (height_of frame.now) p.items) parts.now }
-    ensures { Meets result (agg_refusals frame.now (tree_of agg.now)) (aggregated_on frame.now (map (λ p. p.items) parts.now) (tree_of agg.now)) }
+    ensures { Meets result (agg_refusals (alone frame.now) (tree_of agg.now)) (aggregated_on (alone frame.now) (map (λ p. p.items) parts.now) (tree_of agg.now)) }
 {
     let dtype = type_on(alloc, frame, agg)?;
     let values = part_values(alloc, frame, parts, agg)?;
@@ -238,8 +239,8 @@ fn aggregated_columns(
 ) -> Px<Vec<Column>>
     requires few { length parts.now < 2 ^ 32 }
     requires parts { All (λ p. IsPart (height_of frame.now) p.items) parts.now }
-    ensures { MeetsBy (λ v. v.items) result (flat_map (agg_refusals frame.now) (map tree_of aggs.now))
-        (each (aggregated_on frame.now (map (λ p. p.items) parts.now)) (map tree_of aggs.now)) }
+    ensures { MeetsBy (λ v. v.items) result (flat_map (agg_refusals (alone frame.now)) (map tree_of aggs.now))
+        (each (aggregated_on (alone frame.now) (map (λ p. p.items) parts.now)) (map tree_of aggs.now)) }
 {
     let mut columns = Vec::new(alloc);
     for agg in aggs {
@@ -255,28 +256,13 @@ fn grouped_columns(
     by: &[Column],
     aggs: &[Aggregation],
 ) -> Px<Vec<Column>>
-    ensures { MeetsBy (λ v. v.items) result (flat_map (agg_refusals frame.now) (map tree_of aggs.now)) (columns_on frame.now by.now (map tree_of aggs.now)) }
+    ensures { MeetsBy (λ v. v.items) result (flat_map (agg_refusals (alone frame.now)) (map tree_of aggs.now)) (columns_on (alone frame.now) (map tree_of aggs.now) by.now) }
 {
     let parts = plain_parts(alloc, by, frame.height())?;
     let mut columns = first_values(alloc, by, &parts)?;
     let mut values = aggregated_columns(alloc, frame, &parts, aggs)?;
     columns.append(&mut values)?;
     Ok(columns)
-}
-
-fn grouped_frame(
-    alloc: Global,
-    frame: &DataFrame,
-    keys: &[Name],
-    aggs: &[Aggregation],
-) -> Px<DataFrame>
-    ensures { Meets result (direct.step_refusals (step_by keys.now aggs.now) frame.now) (step_on (step_by keys.now aggs.now) frame.now) }
-{
-    if keys.is_empty() {
-        return Err(PxError::ComputeError(ComputeWhy::NoKey));
-    }
-    let by = key_columns(alloc, frame, keys)?;
-    DataFrame::new(alloc, grouped_columns(alloc, frame, &by, aggs)?)
 }
 
 /// For each part of the frame by these columns, the keys and the aggregations over the part's rows. `NoKey`
@@ -291,6 +277,9 @@ pub fn plain_group_step(
     // The frame of the step's definition, or the first of its refusals.
     ensures { Meets result (step_refusals (step_by keys.now aggs.now) (alone frame.now)) (columns_made (step_by keys.now aggs.now) (alone frame.now)) }
 {
-    let _columns = frame.get_columns();
-    grouped_frame(alloc, frame, keys, aggs)
+    if keys.is_empty() {
+        return Err(PxError::ComputeError(ComputeWhy::NoKey));
+    }
+    let by = key_columns(alloc, frame, keys)?;
+    DataFrame::new(alloc, grouped_columns(alloc, frame, &by, aggs)?)
 }

@@ -4,21 +4,21 @@ use Rattle.px_frame.specs.CellView.{named_cell}
 use Rattle.px_frame.specs.External.{alone}
 use Rattle.px_nodes.specs.Named.{gather_named, function_named, sort_by_named}
 use Rattle.px_tree.specs.Shape.{is_literal_tree}
-use Rattle.px_expr.proofs.Counts.{alias_most, binary_cost, binary_cost_right, binary_ticks, cast_ticks, reduction_cost, ternary_cost, ternary_cost_three, ternary_cost_two, ternary_ticks}
-use Rattle.px_expr.proofs.Operands.{binary_value, cast_value, ternary_value}
+use Rattle.px_answers.proofs.Counts.{alias_most, binary_cost, binary_cost_right, binary_ticks, cast_ticks, reduction_cost, ternary_cost, ternary_cost_three, ternary_cost_two, ternary_ticks}
+use Rattle.px_answers.proofs.Operands.{binary_value, cast_value, ternary_value}
 use Rattle.px_expr.proofs.Planning.{told_front}
-use Rattle.px_expr.proofs.Reductions.{reduction_value}
-use Rattle.px_expr.proofs.Selections.{filter_value, gather_value, slice_value, sort_cause, sort_value}
-use Rattle.px_expr.specs.Counted.{RunAtMost, RunExactly, RunAllExactly}
-use Rattle.px_expr.specs.Parts.{PlannedSort, sort_plan, PlannedApply, plan_trees}
-use Rattle.px_expr.specs.Planned.{Planned}
-use Rattle.px_expr.specs.Value.{IsCause, IsCellOf, AreCellsOf}
+use Rattle.px_answers.proofs.Reductions.{reduction_value}
+use Rattle.px_answers.proofs.Selections.{filter_value, gather_value, slice_value, sort_cause, sort_value}
+use Rattle.px_answers.specs.Counted.{RunAtMost, RunExactly, RunAllExactly}
+use Rattle.px_answers.specs.Parts.{PlannedSort, sort_plan, PlannedApply, plan_trees}
+use Rattle.px_answers.specs.Planned.{Planned}
+use Rattle.px_answers.specs.Value.{IsCause, IsCellOf, AreCellsOf}
 use Rattle.std.proofs.lemmas.Result.{err_from_is_err_and}
 use Rattle.px_tree.specs.Partition.{is_row_function}
 use Rattle.px_tree.specs.Tree.{called}
-use Rattle.px_expr.proofs.Applied.{apply_value}
+use Rattle.px_answers.proofs.Applied.{apply_value}
 use Rattle.px_expr.proofs.CellsInOrder.{apply_ticks, cells_cause, cells_cost, cells_done, cells_next}
-use Rattle.px_expr.proofs.SortedBy.{sort_by_value}
+use Rattle.px_answers.proofs.SortedBy.{sort_by_value}
 use Rattle.px_expr.proofs.+evaluate.Goals as goal
 
 pub aggregation::AggregationExprPhysicalExpr::evaluate-returns-clause-value : goal.aggregation::AggregationExprPhysicalExpr::evaluate-returns-clause-value

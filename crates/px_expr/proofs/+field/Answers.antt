@@ -1,5 +1,5 @@
 use Rattle.std.proofs.Common.{rules}
-use Rattle.px_expr.proofs.Reductions.{reduced_field}
+use Rattle.px_answers.proofs.Reductions.{reduced_field}
 use Rattle.px_frame.specs.SchemaView.{field_kind}
 use Rattle.px_expr.proofs.+field.Goals as goal
 

@@ -3,7 +3,7 @@ use Rattle.px_column.specs.Prelude.{Series}
 use Rattle.px_frame.specs.CellView.{named_cell}
 use Rattle.px_frame.specs.declared.cell.Cell.{Cell}
 use Rattle.px_expr.proofs.Inlined.{alias_inline, inline_done, inline_more, inline_stops}
-use Rattle.px_expr.specs.Inline.{IsInline, IsInlineCell}
+use Rattle.px_answers.specs.Inline.{IsInline, IsInlineCell}
 use Rattle.px_expr.specs.NodeView.{plan_of}
 use Rattle.px_expr.proofs.+inline.Goals as goal
 

@@ -1,12 +1,12 @@
 use Rattle.std.proofs.Common.{map, refl, rules, sym, ap}
-use Rattle.px_expr.specs.Live.{AddsFront, live_names}
-use Rattle.px_expr.specs.Planned.{Planned}
-use Rattle.px_expr.specs.Live.{all_live_names}
+use Rattle.px_answers.specs.Live.{AddsFront, live_names}
+use Rattle.px_answers.specs.Planned.{Planned}
+use Rattle.px_answers.specs.Live.{all_live_names}
 use Rattle.px_expr.specs.NodeView.{plan_of}
-use Rattle.px_expr.specs.Parts.{binary_plan, filter_plan, gather_plan, plan_trees, slice_plan, sort_by_plan, ternary_plan}
+use Rattle.px_answers.specs.Parts.{binary_plan, filter_plan, gather_plan, plan_trees, slice_plan, sort_by_plan, ternary_plan}
 use Rattle.std.proofs.lemmas.Result.{on_err_weaker}
 use Rattle.px_expr.proofs.LiveNames.{front_after, front_at, front_first, front_next, front_second, front_third, names_done, names_next}
-use Rattle.px_expr.proofs.Names.{alias_front, alias_whole, front_more}
+use Rattle.px_answers.proofs.Names.{alias_front, alias_whole, front_more}
 use Rattle.px_expr.proofs.+live.Goals as goal
 use Rattle.px_arena.proofs.Adding.{OnErr-of}
 

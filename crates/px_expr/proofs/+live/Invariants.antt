@@ -1,7 +1,7 @@
 use Rattle.std.proofs.Common.{◌≡◌, ℕ, List, drop, map}
-use Rattle.px_expr.specs.Live.{added, all_live_names, AddsFront}
+use Rattle.px_answers.specs.Live.{added, all_live_names, AddsFront}
 use Rattle.px_expr.specs.NodeView.{plan_of}
-use Rattle.px_expr.specs.Parts.{plan_trees}
+use Rattle.px_answers.specs.Parts.{plan_trees}
 use Rattle.px_expr.proofs.+live.Given as goal
 
 abbrev pub invariant-phys_expr::collect_all-loop-node : goal.invariant-phys_expr::collect_all-loop-node

@@ -5,7 +5,7 @@ ghost use Rattle.px_tree.specs.Shape.{is_unit_call, is_unit_first, are_units};
 ghost use Rattle.px_tree.specs.Tree.{called};
 ghost use Rattle.px_tree.specs.View.{tree};
 ghost use Rattle.px_expr.specs.NodeView.{plan_of};
-ghost use Rattle.px_expr.specs.Parts.{call_in, call_on, plan_trees, plan_columns};
+ghost use Rattle.px_answers.specs.Parts.{call_in, call_on, plan_trees, plan_columns};
 
 use crate::apply::ApplyExpr;
 use crate::phys_expr::PhysExpr;

@@ -4,7 +4,7 @@ ghost use Rattle.px_column.specs.Prelude.{AnswersBy, kind_of};
 ghost use Rattle.px_tree.specs.Tree.{column, literal, alias, binary, ternary, cast, filter, slice, gather, sort, sort_by, agg};
 ghost use Rattle.px_tree.specs.View.{tree, literal_of};
 ghost use Rattle.px_expr.specs.NodeView.{plan_of};
-ghost use Rattle.px_expr.specs.Parts.{plan_trees, plan_columns};
+ghost use Rattle.px_answers.specs.Parts.{plan_trees, plan_columns};
 ghost use Rattle.px_expr.specs.Plan.{planned_over};
 
 use crate::aggregation::{AggregationExpr, AggregationType};

@@ -2,7 +2,7 @@ use Rattle.std.proofs.Common.{rules, ◌≡◌, ◌+ℤ◌, pos, Some, map}
 use Rattle.std.proofs.Common.{w64, to_z, of_z}
 use Rattle.std.specs.List.{range_with_len}
 use Rattle.px_column.specs.Prelude.{integer, slots_of}
-use Rattle.px_expr.proofs.Ranges.{row_more, rows_count}
+use Rattle.px_answers.proofs.Ranges.{row_more, rows_count}
 use Rattle.px_expr.proofs.range.integers.Goals as goal
 
 pub loop-place-preserved : goal.loop-place-preserved

@@ -2,7 +2,7 @@ use Rattle.std.proofs.Common.{rules, ◌≡◌, ◌&&◌, ◌-ℤ◌, ◌^◌, t
 use Rattle.px_column.specs.Prelude.{integer, fits, kind_of, slots_of}
 use Rattle.px_tree.specs.Node.{integers, natural}
 use Rattle.px_tree.specs.Typing.{is_range_kind}
-use Rattle.px_expr.proofs.Ranges.{range_made, few_enough, count_is}
+use Rattle.px_answers.proofs.Ranges.{range_made, few_enough, count_is}
 use Rattle.px_expr.proofs.range.range_column.Goals as goal
 
 pub returns : goal.returns

@@ -1,19 +1,19 @@
-use Rattle.std.proofs.Common.{◌≡◌, ◌+◌, ◌≤◌, map, drop}
+use Rattle.std.proofs.Common.{◌≡◌, ℕ, ◌+◌, ◌≤◌, map, drop}
 use Rattle.std.specs.List.{flat_map, sum_by}
 use Rattle.px_column.specs.Option.{each}
-use Rattle.px_expr.specs.Counted.{flat_kernels}
+use Rattle.px_answers.specs.Counted.{flat_kernels}
 use Rattle.px_frame.specs.External.{alone}
-use Rattle.px_tree.specs.View.{tree}
-use Rattle.px_steps.specs.Finds.{key_faults}
+use Rattle.px_steps.specs.Finds.{key_faults, node_tree}
 use Rattle.px_document.specs.Form.{with_front}
-use Rattle.px_steps.specs.Plain.{key_on}
+use Rattle.px_steps.specs.Plain.{RisesAtMost, costs_on, key_on}
 use Rattle.px_steps.proofs.group_step.key_columns.Given as goal
 
 abbrev pub invariant-loop-key : goal.invariant-loop-key
 invariant-loop-key g l = record {
-  values : with_front l.columns.items (each (key_on (alone l.frame)) (map tree (drop l.key-index l.keys))) ≡ each (key_on (alone l.frame)) (map tree l.keys);
-  sound : flat_map (key_faults (alone l.frame)) (map tree (drop l.key-index l.keys)) ≡ flat_map (key_faults (alone l.frame)) (map tree l.keys);
+  values : with_front l.columns.items (each (key_on (alone l.frame)) (map node_tree (drop l.key-index l.keys))) ≡ each (key_on (alone l.frame)) (map node_tree l.keys);
+  sound : flat_map (key_faults (alone l.frame)) (map node_tree (drop l.key-index l.keys)) ≡ flat_map (key_faults (alone l.frame)) (map node_tree l.keys);
   state : l.state ≡ l.initial.state;
   grouped : l.groupings ≡ l.initial.groupings;
-  ticks : l.initial.kernels + sum_by flat_kernels (map tree l.keys) ≤ l.kernels + sum_by flat_kernels (map tree (drop l.key-index l.keys));
+  most : (new : ℕ) → RisesAtMost (costs_on (map node_tree (drop l.key-index l.keys)) (alone l.frame)) l.kernels new → RisesAtMost (costs_on (map node_tree l.keys) (alone l.frame)) l.initial.kernels new;
+  ticks : l.initial.kernels + sum_by flat_kernels (map node_tree l.keys) ≤ l.kernels + sum_by flat_kernels (map node_tree (drop l.key-index l.keys));
 }

@@ -1,8 +1,8 @@
 use Rattle.std.proofs.Common.{sym, subst}
 use Rattle.std.proofs.lemmas.Result.{IfOk-weaker}
 use Rattle.px_document.specs.DocumentView.{document_view}
-use Rattle.px_steps.specs.Replies.{Grouped, Replies, Ticked}
-use Rattle.px_steps.proofs.Replied.{document_built, is_result, is_refusal, grouped_by, ticked_by, with_cause}
+use Rattle.px_steps.specs.Replies.{Bounded, Grouped, Replies, Ticked}
+use Rattle.px_steps.proofs.Replied.{bounded_by, document_built, is_result, is_refusal, grouped_by, ticked_by, with_cause}
 use Rattle.px_steps.proofs.reply.reply_to.Goals as goal
 
 pub run_steps-requires : goal.run_steps-requires
@@ -24,6 +24,14 @@ returns-in-Ok-run_steps-clause-ticks g c =
     (λ r e. subst (λ x. Ticked c.args.bytes.now x c.args.kernels.now c.run_steps.new.kernels) (sym e.1) (ticked_by c.args.bytes.now doc c.args.kernels.now c.run_steps.new.kernels c.in-Ok.ensures.found count))
     c.frame_reply.ensures
 
+pub returns-in-Ok-run_steps-clause-most : goal.returns-in-Ok-run_steps-clause-most
+returns-in-Ok-run_steps-clause-most g c =
+    let doc = document_view c.in-Ok.document in
+    let bound = rw c.deref.ensures.value at c.in-Ok-run_steps.ensures.most in
+    IfOk-weaker c.frame_reply.result _ _
+    (λ r e. subst (λ x. Bounded c.args.bytes.now x c.args.kernels.now c.run_steps.new.kernels) (sym e.1) (bounded_by c.args.bytes.now doc c.args.kernels.now c.run_steps.new.kernels c.in-Ok.ensures.found bound))
+    c.frame_reply.ensures
+
 pub returns-in-Ok-run_steps-clause-reply : goal.returns-in-Ok-run_steps-clause-reply
 returns-in-Ok-run_steps-clause-reply g c =
     let doc = document_view c.in-Ok.document in
@@ -41,5 +49,6 @@ returns g c =
       reply = with_cause c.fault_reply.result _ _ _ c.fault_reply.ensures.line c.fault_reply.ensures.cause
           (λ r e k. subst (Replies c.args.bytes.now) (sym e.1) (is_refusal c.args.bytes.now e.0 doc c.in-Err.fault c.in-Ok.ensures.found cause k e.2));
       ticks = IfOk-weaker c.fault_reply.result _ _ (λ r e. subst (λ x. Ticked c.args.bytes.now x c.args.kernels.now c.run_steps.new.kernels) (sym e.1) tt) c.fault_reply.ensures.line;
+      most = IfOk-weaker c.fault_reply.result _ _ (λ r e. subst (λ x. Bounded c.args.bytes.now x c.args.kernels.now c.run_steps.new.kernels) (sym e.1) tt) c.fault_reply.ensures.line;
       grouped = IfOk-weaker c.fault_reply.result _ _ (λ r e. subst (λ x. Grouped c.args.bytes.now x c.args.groupings.now c.run_steps.new.groupings) (sym e.1) tt) c.fault_reply.ensures.line;
     }

@@ -1,5 +1,32 @@
-use Rattle.px_vectors.proofs.PlainWhole.{meets_whole}
+use Rattle.std.proofs.Common.{◌∙◌, Some, ap, map, refl, sym}
+use Rattle.std.proofs.lemmas.Result.{err_from_is_err_and}
+use Rattle.px_frame.specs.Schema.{column_field}
+use Rattle.px_tree.specs.Tree.{column}
+use Rattle.px_steps.proofs.GroupStep.{aggs_first, keys_first}
+use Rattle.px_vectors.specs.PlainStep.{tree_of}
+use Rattle.px_vectors.proofs.PlainAnswer.{no_key, some_key, step_answer}
 use Rattle.px_vectors.proofs.plain_step.plain_group_step.Goals as goal
 
+pub returns-then-is_empty : goal.returns-then-is_empty
+returns-then-is_empty c = no_key c.args.keys.now (map tree_of c.args.aggs.now) c.args.frame.now (sym c.is_empty.ensures ∙ c.if-is_empty.true)
+
+pub returns-in_err-by : goal.returns-in_err-by
+returns-in_err-by c =
+    let p = err_from_is_err_and c.from_residual.result c.from_residual.ensures.1 in
+    rw (p.1, p.2)
+    (keys_first c.in_err-by.field-0.0 (map column c.args.keys.now) (map tree_of c.args.aggs.now) c.args.frame.now (map column_field c.args.frame.now) refl
+    (some_key c.args.keys.now (sym c.is_empty.ensures ∙ c.if-is_empty.false)) c.in_err-by.ensures)
+
+pub returns-in_err-grouped_columns : goal.returns-in_err-grouped_columns
+returns-in_err-grouped_columns c =
+    let p = err_from_is_err_and c.from_residual-in_err-grouped_columns.result c.from_residual-in_err-grouped_columns.ensures.1 in
+    rw (p.1, p.2)
+    (aggs_first c.in_err-grouped_columns.field-0.0 (map column c.args.keys.now) (map tree_of c.args.aggs.now) c.args.frame.now (map column_field c.args.frame.now) refl
+    (some_key c.args.keys.now (sym c.is_empty.ensures ∙ c.if-is_empty.false)) c.in_ok-by.ensures.0 c.in_err-grouped_columns.ensures)
+
 pub returns : goal.returns
-returns c = meets_whole c.args.keys.now c.args.aggs.now c.args.frame.now c.grouped_frame.result c.get_columns-columns.ensures.frame c.grouped_frame.ensures
+returns c =
+    let keys = c.in_ok-by.ensures in
+    let columns = c.in_ok-grouped_columns.ensures in
+    step_answer c.args.frame.now (map column c.args.keys.now) (map tree_of c.args.aggs.now) c.deref.result.now c.in_ok-grouped_columns.field-0.items c.new.result c.new.ensures.answer
+    (some_key c.args.keys.now (sym c.is_empty.ensures ∙ c.if-is_empty.false)) (keys.1 ∙ ap Some (sym c.deref.ensures.value)) keys.0 columns.1 columns.0

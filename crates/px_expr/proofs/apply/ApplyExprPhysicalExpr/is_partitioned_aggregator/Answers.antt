@@ -3,7 +3,7 @@ use Rattle.std.proofs.lemmas.Bool.Decides.{nat_tests}
 use Rattle.std.proofs.lemmas.Grind.{common_steps}
 use Rattle.std.proofs.lemmas.List.{length-map}
 use Rattle.px_expr.specs.NodeView.{plan_of}
-use Rattle.px_expr.proofs.Partitioned.{partitioned_none_view, partitioned_view}
+use Rattle.px_answers.proofs.Partitioned.{partitioned_none_view, partitioned_view}
 use Rattle.px_expr.proofs.apply.ApplyExprPhysicalExpr.is_partitioned_aggregator.Goals as goal
 
 pub returns-then-len-eq1 : goal.returns-then-len-eq1

@@ -1,5 +1,5 @@
 use Rattle.std.proofs.Common.{sym}
-use Rattle.px_expr.proofs.Columns.{found_value}
+use Rattle.px_answers.proofs.Columns.{found_value}
 use Rattle.px_expr.proofs.column.ColumnExprPhysicalExpr.evaluate.Goals as goal
 
 pub returns-in-Some-clause-value : goal.returns-in-Some-clause-value

@@ -1,5 +1,5 @@
 use Rattle.std.proofs.Common.{sym}
-use Rattle.px_expr.proofs.Columns.{found_option}
+use Rattle.px_answers.proofs.Columns.{found_option}
 use Rattle.px_expr.proofs.column.ColumnExprPhysicalExpr.to_field.Goals as goal
 
 pub returns-in-Some : goal.returns-in-Some

@@ -1,7 +1,7 @@
 use Rattle.std.proofs.Common.{sym}
 use Rattle.px_frame.specs.External.{alone}
 use Rattle.px_tree.specs.View.{literal_of}
-use Rattle.px_expr.proofs.Literals.{literal_cause}
+use Rattle.px_answers.proofs.Literals.{literal_cause}
 use Rattle.px_expr.proofs.literal.LiteralExprPhysicalExpr.evaluate.Goals as goal
 
 pub returns-clause-causes : goal.returns-clause-causes

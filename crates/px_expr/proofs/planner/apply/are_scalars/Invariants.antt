@@ -1,7 +1,7 @@
 use Rattle.std.proofs.Common.{◌≡◌, drop, map}
 use Rattle.px_tree.specs.Shape.{are_units}
 use Rattle.px_expr.specs.NodeView.{plan_of}
-use Rattle.px_expr.specs.Parts.{plan_trees}
+use Rattle.px_answers.specs.Parts.{plan_trees}
 use Rattle.px_expr.proofs.planner.apply.are_scalars.Given as goal
 
 abbrev pub invariant-loop-input : goal.invariant-loop-input

@@ -1,0 +1,15 @@
+pub mod Applied
+pub mod Cells
+pub mod Columns
+pub mod Counts
+pub mod InputLists
+pub mod Inputs
+pub mod Literals
+pub mod Names
+pub mod Operands
+pub mod Partitioned
+pub mod Plain
+pub mod Ranges
+pub mod Reductions
+pub mod Selections
+pub mod SortedBy

@@ -1,0 +1,12 @@
+pub mod Above
+pub mod ContextsInOrder
+pub mod GroupCounts
+pub mod Leaves
+pub mod Lists
+pub mod Operands
+pub mod Paired
+pub mod Pointwise
+pub mod Reductions
+pub mod Refusing
+pub mod Selections
+pub mod Values

@@ -1,0 +1,4 @@
+pub mod Accepts
+pub mod Counted
+pub mod Leaf
+pub mod OnGroups

@@ -1,0 +1,91 @@
+-- How often kernels run at least and at most: of some expressions one after another, of a group step, and of steps.
+use Rattle.std.proofs.Common.{◌≡◌, ℕ, ◌+◌, ◌<◌, ◌≤◌, Bool, true, false, cond, List, [], ◌∷◌, Option, Some, None, Result, Ok, Err, drop, get_or, length, map, option_and_then, option_map, refl, sum, sym, ◌∙◌, ap, subst, arith}
+use Rattle.std.specs.Prelude.{OnOk}
+use Rattle.std.specs.List.{sum_by}
+use Rattle.std.proofs.lemmas.List.{at_drop_all, length-map}
+use Rattle.std.proofs.lemmas.List.Sums.{sum_by-cons}
+use Rattle.px_column.specs.Option.{each}
+use Rattle.px_column.specs.Prelude.{Series}
+use Rattle.px_answers.specs.Counted.{RunExactly, flat_kernels}
+use Rattle.px_group_answers.specs.Counted.{RunOnGroups}
+use Rattle.px_frame.specs.External.{Frame, height, rows_of_frame}
+use Rattle.px_frame.specs.Parts.{parts_of}
+use Rattle.px_tree.specs.Cost.{cost_on, is_flat, ticks_of}
+use Rattle.px_tree.specs.Step.{PlainStep, group}
+use Rattle.px_tree.specs.Tree.{Tree}
+use Rattle.px_steps.specs.Plain.{RisesAtMost, costs_on, frames_by, group_costs, group_frames, kernels_in, key_on, most_kernels_in, most_kernels_of, step_on}
+use Rattle.px_steps.proofs.Members.{at}
+
+-- no expression runs no kernel
+costs_none : (F : Frame) (n : ℕ) → RisesAtMost (costs_on [] F) n n
+costs_none F n = omega arith
+
+-- one more expression's cost
+costs_more : (e : Tree) (es : List Tree) (F : Frame) (old mid new : ℕ) → RisesAtMost (cost_on e F) old mid → RisesAtMost (costs_on es F) mid new → RisesAtMost (costs_on (e ∷ es) F) old new
+costs_more e es F old mid new a b = by (cost_on e F) (each (λ x. cost_on x F) es) a b
+  where
+    by : (o : Option ℕ) (os : Option (List ℕ)) → RisesAtMost o old mid → RisesAtMost (option_map sum os) mid new → RisesAtMost (option_map sum (option_and_then (λ n. option_map (λ ns. n ∷ ns) os) o)) old new
+    by None os a b = tt
+    by (Some n) None a b = tt
+    by (Some n) (Some ns) a b =
+        let first : sum (n ∷ ns) ≡ n + sum ns = sum_by-cons (λ m. m) n ns in
+        omega (arith, a, b, first)
+
+-- the bound of a loop over expressions, as far as it has come
+pub cost_next : {X : Type 0} (v : X → Tree) (xs : List X) (i : ℕ) (x : X) → i < length xs → x ≡ get_or xs i x → (F : Frame) (whole : ℕ → Type 0) (old mid : ℕ)
+    → ((new : ℕ) → RisesAtMost (costs_on (map v (drop i xs)) F) old new → whole new) → RisesAtMost (cost_on (v x) F) old mid → (new : ℕ) → RisesAtMost (costs_on (map v (drop (i + 1) xs)) F) mid new → whole new
+cost_next v xs i x below is F whole old mid h one new rest =
+    h new (subst (λ o. RisesAtMost o old new) (sym (at v xs i x below is (λ es. costs_on es F))) (costs_more (v x) (map v (drop (i + 1) xs)) F old mid new one rest))
+
+-- and at its end
+pub cost_end : {X : Type 0} (v : X → Tree) (xs : List X) (i : ℕ) → length xs ≤ i → (F : Frame) (whole : ℕ → Type 0) (now : ℕ) → ((new : ℕ) → RisesAtMost (costs_on (map v (drop i xs)) F) now new → whole new) → whole now
+cost_end v xs i end F whole now h = h now (subst (λ o. RisesAtMost o now now) (sym (at_drop_all (λ es. costs_on (map v es) F) xs i end)) (costs_none F now))
+
+-- a flat aggregation runs its kernels
+pub least_on_groups : (t : Tree) (n old new : ℕ) → RunExactly t old new → RunOnGroups t n old new → old + flat_kernels t ≤ new
+least_on_groups t n old new exact most = by (is_flat t) refl
+  where
+    by : (b : Bool) → is_flat t ≡ b → old + cond b (ticks_of t) 0 ≤ new
+    by true h = let same = exact h in omega (arith, same)
+    by false h = omega (arith, most.rises)
+
+-- what holds on Ok, from what holds there
+pub on_ok_so : {X E P Q : Type 0} (r : Result X E) → OnOk r P → (P → Q) → OnOk r Q
+on_ok_so (Ok x) h f = f h
+on_ok_so (Err e) h f = tt
+
+-- the kernels of keys and then of aggregations
+pub least_both : (keys aggs ks ns : List Tree) → ks ≡ keys → ns ≡ aggs → (old mid new : ℕ) → old + sum_by flat_kernels ks ≤ mid → mid + sum_by flat_kernels ns ≤ new → old + kernels_in (group keys aggs None) ≤ new
+least_both keys aggs ks ns k n old mid new a b =
+    let first = ap (sum_by flat_kernels) k in
+    let second = ap (sum_by flat_kernels) n in
+    omega (arith, a, b, first, second)
+
+pub most_both : (F : Frame) (keys aggs ks ns : List Tree) → ks ≡ keys → ns ≡ aggs → (by : List Series) → each (key_on F) keys ≡ Some by → (old mid new : ℕ) → RisesAtMost (costs_on ks F) old mid
+    → new ≤ mid + group_costs ns (length (parts_of by (height F))) → RisesAtMost (most_kernels_in (group keys aggs None) F) old new
+most_both F keys aggs ks ns k n by made old mid new a b = within (costs_on keys F) (subst (λ (ts : List Tree). RisesAtMost (costs_on ts F) old mid) k a)
+  where
+    many : length (frames_by F keys) ≡ length (parts_of by (height F))
+    many = ap (λ o. length (group_frames F o)) made ∙ length-map (parts_of by (height F)) (rows_of_frame F)
+
+    same : group_costs aggs (length (frames_by F keys)) ≡ group_costs ns (length (parts_of by (height F)))
+    same = ap (group_costs aggs) many ∙ ap (λ (ts : List Tree). group_costs ts (length (parts_of by (height F)))) (sym n)
+
+    within : (o : Option ℕ) → RisesAtMost o old mid → RisesAtMost (option_map (λ m. m + group_costs aggs (length (frames_by F keys))) o) old new
+    within None h = tt
+    within (Some m) h = omega (arith, h, b, same)
+
+-- steps after a first one
+pub steps_more : (s : PlainStep) (steps : List PlainStep) (F next : Frame) (old mid new : ℕ) → step_on s F ≡ Some next → RisesAtMost (most_kernels_in s F) old mid → RisesAtMost (most_kernels_of steps next) mid new → RisesAtMost (most_kernels_of (s ∷ steps) F) old new
+steps_more s steps F next old mid new made a b = by (most_kernels_in s F) (step_on s F) made a
+  where
+    rest : (n : ℕ) (o : Option ℕ) → mid ≤ old + n → RisesAtMost o mid new → RisesAtMost (option_and_then (λ m. Some (n + m)) o) old new
+    rest n None h k = tt
+    rest n (Some m) h k = omega (arith, h, k)
+
+    by : (o : Option ℕ) (f : Option Frame) → f ≡ Some next → RisesAtMost o old mid → RisesAtMost (option_and_then (λ n. option_and_then (λ g. option_and_then (λ m. Some (n + m)) (most_kernels_of steps g)) f) o) old new
+    by None f e h = tt
+    by (Some n) None e h = tt
+    by (Some n) (Some g) e h =
+        let same : g ≡ next = cc in
+        rest n (most_kernels_of steps g) h (subst (λ (x : Frame). RisesAtMost (most_kernels_of steps x) mid new) (sym same) b)

@@ -1,0 +1,106 @@
+-- Nodes of expressions: which type they have, and that they are planned and not refused.
+use Rattle.std.proofs.Common.{◌≡◌, inl, inr, Bool, true, false, not, List, [], ◌∷◌, ◌++◌, Some, Ok, map, refl, sym, ◌∙◌, ap, subst}
+use Rattle.std.specs.List.{flat_map, list_all}
+use Rattle.px_column.specs.Prelude.{Kind, Refuses, Series}
+use Rattle.px_column.specs.Result.{◌>>=◌}
+use Rattle.px_value.specs.declared.error.PxError.{PxError}
+use Rattle.px_value.specs.declared.error.PxError.TheVariants.{OutOfMemory}
+use Rattle.px_answers.specs.Live.{field_of, field_on}
+use Rattle.px_answers.specs.Planned.{Planned}
+use Rattle.px_expr.specs.NodeView.{plan_of}
+use Rattle.px_expr.specs.Plan.{planned_over}
+use Rattle.px_expr.specs.declared.phys_expr.PhysExpr.{PhysExpr}
+use Rattle.px_frame.specs.Schema.{FieldKind, column_field}
+use Rattle.px_tree.specs.Built.{is_built_tree}
+use Rattle.px_tree.specs.Shape.{name_of}
+use Rattle.px_tree.specs.Tree.{Tree}
+use Rattle.px_tree.specs.Typing.{Scope, fails, first_or_kind, kind_in, refusals_of, refused_where}
+use Rattle.px_tree.specs.declared.context.Context.{Context}
+use Rattle.px_tree.specs.declared.context.Context.TheVariants.{Default}
+use Rattle.px_tree.proofs.KindLaws.{kind_there, none_left as nil_left, none_right as nil_right}
+use Rattle.px_value.proofs.FitLaws.{both}
+use Rattle.px_steps.specs.Finds.{AreAccepted, GroupPlans, IsAccepted, group_plans, node_tree, plans_over}
+use Rattle.px_steps.specs.declared.group_step.GroupNodes.{GroupNodes}
+use Rattle.px_steps.specs.Meets.{IsFirst}
+use Rattle.px_steps.specs.Plain.{first_of}
+use Rattle.px_steps.proofs.Grouping.{no_refusal}
+use Rattle.px_steps.proofs.Members.{In}
+
+-- want of memory may always be told
+pub memory_first : (e : PxError) (refusals : List PxError) → e ≡ OutOfMemory → IsFirst e refusals
+memory_first e refusals m = subst (λ (x : PxError). IsFirst x refusals) (sym m) tt
+
+module _ (p : Planned) (t : Tree) (scope : Scope) (built : is_built_tree t ≡ true) (none : refusals_of t scope Default ≡ []) (made : Some (planned_over scope t) ≡ Some p) where
+  -- the name and type of a node that is not refused
+  field_there : (k : Kind) → kind_in t scope ≡ Some k → field_on p.tree scope ≡ Ok (record { name = name_of t; kind = k })
+  field_there k e =
+      let same : planned_over scope t ≡ p = cc in
+      ap (λ (q : Planned). field_on q.tree scope) (sym same) ∙ (λ i. first_or_kind (none i) (e i) >>= field_of (name_of t))
+
+  -- which is refused for want of memory alone
+  pub field_memory : (e : PxError) → Refuses e (field_on p.tree scope) → e ≡ OutOfMemory
+  field_memory e h = let k = kind_there t scope Default none in no_refusal e (field_on p.tree scope) _ (field_there k.0 k.1) h
+
+  module _ (test : Kind → Bool) (e : PxError) (f : FieldKind) (field : field_on p.tree scope ≡ Ok f) where
+    typed : kind_in t scope ≡ Some f.kind
+    typed =
+        let k = kind_there t scope Default none in
+        let same : record { name = name_of t; kind = k.0 } ≡ f = cc (field_there k.0 k.1, field) in
+        k.1 ∙ ap (λ (x : FieldKind). Some x.kind) same
+
+    told : (b : Bool) → test f.kind ≡ b → refusals_of t scope Default ++ refused_where (fails test (kind_in t scope)) e ≡ refused_where (not b) e
+    told b h = (λ i. none i ++ refused_where (fails test (typed i)) e) ∙ ap (λ (c : Bool). refused_where (not c) e) h
+
+    -- a type that passes a test is not refused for it
+    pub type_passes : test f.kind ≡ true → refusals_of t scope Default ++ refused_where (fails test (kind_in t scope)) e ≡ []
+    type_passes h = told true h
+
+    -- and another one is
+    pub type_fails : test f.kind ≡ false → first_of (refusals_of t scope Default ++ refused_where (fails test (kind_in t scope)) e) ≡ Some e
+    type_fails h = ap first_of (told false h)
+
+-- a planned expression among some is not refused
+pub in_accepted : (cs : List Series) (place : Context) (ps : List Planned) (p : Planned) → In p ps → AreAccepted ps cs place → IsAccepted p cs place
+in_accepted cs place [] p h a = absurd h
+in_accepted cs place (q ∷ ps) p (inl e) a = subst (λ (x : Planned). IsAccepted x cs place) (sym e) a.0
+in_accepted cs place (q ∷ ps) p (inr h) a = in_accepted cs place ps p h a.1
+
+-- expressions that are not refused, planned over the frame's names and types
+all_accepted : (cs : List Series) (place : Context) (ts : List Tree) → list_all is_built_tree ts ≡ true → flat_map (λ t. refusals_of t (map column_field cs) place) ts ≡ [] → AreAccepted (map (planned_over (map column_field cs)) ts) cs place
+all_accepted cs place [] b n = tt
+all_accepted cs place (t ∷ ts) b n =
+    let one = both (is_built_tree t) (list_all is_built_tree ts) b in
+    let R : Tree → List PxError = λ x. refusals_of x (map column_field cs) place in (
+      record { built = one.0; over = refl; accepted = nil_left (R t) (flat_map R ts) n },
+      all_accepted cs place ts one.1 (nil_right (R t) (flat_map R ts) n),
+    )
+
+pub are_accepted : (cs : List Series) (place : Context) (ts : List Tree) (nodes : List PhysExpr) → map (planned_over (map column_field cs)) ts ≡ map plan_of nodes → list_all is_built_tree ts ≡ true
+    → flat_map (λ t. refusals_of t (map column_field cs) place) ts ≡ [] → AreAccepted (map plan_of nodes) cs place
+are_accepted cs place ts nodes e b n = subst (λ (ps : List Planned). AreAccepted ps cs place) e (all_accepted cs place ts b n)
+
+plan_trees : (nodes : List PhysExpr) → map (λ (p : Planned). p.tree) (map plan_of nodes) ≡ map node_tree nodes
+plan_trees [] = refl
+plan_trees (n ∷ nodes) = ap (λ ts. node_tree n ∷ ts) (plan_trees nodes)
+
+planned_trees : (scope : Scope) (ts : List Tree) → map (λ (p : Planned). p.tree) (map (planned_over scope) ts) ≡ ts
+planned_trees scope [] = refl
+planned_trees scope (t ∷ ts) = ap (λ us. t ∷ us) (planned_trees scope ts)
+
+-- their nodes are those of the same expressions
+pub same_trees : (scope : Scope) (ts : List Tree) (nodes : List PhysExpr) → map (planned_over scope) ts ≡ map plan_of nodes → map node_tree nodes ≡ ts
+same_trees scope ts nodes e = sym (plan_trees nodes) ∙ ap (map (λ (p : Planned). p.tree)) (sym e) ∙ planned_trees scope ts
+
+-- the nodes of keys and of aggregations, over the frame's names and types
+pub both_planned : (fields scope : Scope) (keys aggs : List Tree) (g : GroupNodes) → fields ≡ scope → Some (map (planned_over scope) keys) ≡ Some (map plan_of g.keys.items) → Some (map (planned_over scope) aggs) ≡ Some (map plan_of g.aggs.items)
+    → Some (plans_over fields keys aggs) ≡ Some (group_plans g)
+both_planned fields scope keys aggs g e k a =
+    let first : map (planned_over scope) keys ≡ map plan_of g.keys.items = cc in
+    let second : map (planned_over scope) aggs ≡ map plan_of g.aggs.items = cc in
+    ap (λ (s : Scope). Some (plans_over s keys aggs)) e ∙ (λ i. Some (record { keys = first i; aggs = second i }))
+
+-- each for itself
+pub planned_both : (scope : Scope) (keys aggs : List Tree) (g : GroupNodes) → Some (plans_over scope keys aggs) ≡ Some (group_plans g) → (map (planned_over scope) keys ≡ map plan_of g.keys.items) × (map (planned_over scope) aggs ≡ map plan_of g.aggs.items)
+planned_both scope keys aggs g e =
+    let same : plans_over scope keys aggs ≡ group_plans g = cc in
+    (ap (λ (x : GroupPlans). x.keys) same, ap (λ (x : GroupPlans). x.aggs) same)
