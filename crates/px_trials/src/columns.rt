@@ -1,6 +1,6 @@
 //! Columns: their rows, copies of them, and columns of one value.
 
-use crate::told::{column, told};
+use crate::told::{column, pair, told};
 use px_column::{Column, DataType, Name, Px, PxError, Value, ValueRef};
 use std::alloc::Global;
 use std::test::Fail;
@@ -92,6 +92,13 @@ fn taken(alloc: Global, rows: &[Option<u32>]) -> Px<Name> {
     told(alloc, column.take(alloc, rows))
 }
 
+// The row 1, and behind it the row 2.
+fn joined(alloc: Global) -> Px<Name> {
+    let (mut first, second) = pair(alloc, "Int64", "[1]", "[2]")?;
+    first.append(alloc, &second)?;
+    told(alloc, Ok(first))
+}
+
 fn null_count(alloc: Global) -> Px<u32> {
     let column = column(alloc, "Int64", "[4,null,null]")?;
     Ok(column.null_count())
@@ -103,6 +110,7 @@ fn rows_are_taken_under_another_name(rt: HostRuntime) -> Result<(), Fail> {
     let text = taken(alloc, &[Some(2), None])?;
     assert_eq!(rt; text.as_str(), "[\"y\"]\n[\"Int64\"]\n[6]\n[null]\n");
     assert_eq!(rt; taken(alloc, &[Some(3)])?.as_str(), "error: OutOfBounds\n");
+    assert_eq!(rt; joined(alloc)?.as_str(), "[\"x\"]\n[\"Int64\"]\n[1]\n[2]\n");
     assert_eq!(rt; null_count(alloc)?, 2);
     Ok(())
 }

@@ -1,6 +1,6 @@
 //! Frames, their schemas, and cells side by side.
 
-use crate::told::{column, four_rows, pair, told, told_frame};
+use crate::told::{column, four_rows, told, told_frame};
 use px_column::{Column, DataType, Name, Px, PxError, Value};
 use px_frame::{Cell, DataFrame, Field, Schema, UnitColumn, assemble, spread};
 use std::alloc::Global;
@@ -43,25 +43,6 @@ fn rows_of_a_frame_are_taken(rt: HostRuntime) -> Result<(), Fail> {
         "[\"k\",\"x\"]\n[\"Int64\",\"Int64\"]\n[9,1]\n[7,2]\n"
     );
     assert_eq!(rt; cloned(alloc)?.as_str(), ROWS);
-    Ok(())
-}
-
-fn of_two_heights(alloc: Global) -> Px<Name> {
-    let (two, three) = pair(alloc, "Int64", "[1,2]", "[1,2,3]")?;
-    let three = three.with_name(Name::new(alloc, "y")?);
-    told_frame(alloc, DataFrame::new(alloc, vec![in alloc; two, three]?))
-}
-
-fn of_one_name(alloc: Global) -> Px<Name> {
-    let (first, again) = pair(alloc, "Int64", "[1]", "[2]")?;
-    told_frame(alloc, DataFrame::new(alloc, vec![in alloc; first, again]?))
-}
-
-#[test]
-fn columns_have_one_height_and_names_of_their_own(rt: HostRuntime) -> Result<(), Fail> {
-    let alloc = rt.alloc();
-    assert_eq!(rt; of_two_heights(alloc)?.as_str(), "error: ShapeMismatch\n");
-    assert_eq!(rt; of_one_name(alloc)?.as_str(), "error: Duplicate(\"x\")\n");
     Ok(())
 }
 

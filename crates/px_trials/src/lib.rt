@@ -1,9 +1,7 @@
-//! Trials of calls that no document reaches: values, columns, kernels, frames, groups, expressions, nodes, the
+//! Trials of calls that no document reaches: values, columns, frames, groups, expressions, nodes, the
 //! planner and the state of an evaluation. Nothing stands on this crate.
 #![tactic(auto)]
 
-#[cfg(test)]
-mod arrangement;
 #[cfg(test)]
 mod columns;
 #[cfg(test)]
@@ -11,11 +9,7 @@ mod frames;
 #[cfg(test)]
 mod groups;
 #[cfg(test)]
-mod kernels;
-#[cfg(test)]
 mod nodes;
-#[cfg(test)]
-mod orders;
 #[cfg(test)]
 mod planner;
 #[cfg(test)]
@@ -26,7 +20,5 @@ mod state;
 mod told;
 #[cfg(test)]
 mod trees;
-#[cfg(test)]
-mod truths;
 #[cfg(test)]
 mod values;

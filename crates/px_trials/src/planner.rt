@@ -71,18 +71,6 @@ fn all_planned(alloc: Global, name: &str, state: &mut ExpressionConversionState)
 }
 
 #[test]
-fn an_unknown_column_is_not_found(rt: HostRuntime) -> Result<(), Fail> {
-    let alloc = rt.alloc();
-    let mut state = ExpressionConversionState::new(1);
-    let text = planned(alloc, "y", &mut state)?;
-    assert_eq!(rt; text.as_str(), "error: ColumnNotFound(\"y\")\n");
-    let text = all_planned(alloc, "y", &mut state)?;
-    assert_eq!(rt; text.as_str(), "error: ColumnNotFound(\"y\")\n");
-    assert!(rt; !state.too_deep && !state.has_windows);
-    Ok(())
-}
-
-#[test]
 fn a_path_as_long_as_the_limit_is_noted(rt: HostRuntime) -> Result<(), Fail> {
     let alloc = rt.alloc();
     let mut state = ExpressionConversionState::new(1);

@@ -1,6 +1,6 @@
 //! Columns and frames for the trials, and what calls answer, as text.
 
-use px_column::{Column, DataType, Name, Px, PxError};
+use px_column::{Column, Name, Px, PxError};
 use px_document::{error_line, frame_text, read_document};
 use px_frame::DataFrame;
 use std::alloc::Global;
@@ -66,17 +66,6 @@ pub(crate) fn told_frame(alloc: Global, answer: Px<DataFrame>) -> Px<Name> {
 pub(crate) fn told(alloc: Global, answer: Px<Column>) -> Px<Name> {
     match answer {
         Ok(column) => told_frame(alloc, DataFrame::new(alloc, vec![in alloc; column]?)),
-        Err(error) => refused(alloc, error),
-    }
-}
-
-/// The text of a frame of one column `x` of a type, without rows, or the line of a refusal.
-pub(crate) fn told_type(alloc: Global, answer: Px<DataType>) -> Px<Name> {
-    match answer {
-        Ok(dtype) => told(
-            alloc,
-            Column::full_null(alloc, Name::new(alloc, "x")?, 0, dtype),
-        ),
         Err(error) => refused(alloc, error),
     }
 }

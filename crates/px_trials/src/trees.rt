@@ -1,11 +1,10 @@
-//! Expressions in an arena, their names and their types.
+//! Expressions in an arena, and copies of them.
 ghost use Rattle.std.specs.Prelude.{◌<◌, IfOk, length};
 
-use crate::told::{four_rows, told_type};
 use px_column::{Name, Operator, Px, PxError};
 use px_plan::{
-    AggExpr, Arena, Context, Expr, LiteralValue, Node, aexpr_to_leaf_names, fits_arena,
-    is_scalar_ae, node_to_expr, output_name, to_arena, type_of, type_on_groups,
+    Arena, Expr, LiteralValue, Node, aexpr_to_leaf_names, fits_arena, is_scalar_ae, node_to_expr,
+    to_arena,
 };
 use std::alloc::Global;
 use std::rc::Rc;
@@ -74,75 +73,17 @@ fn only_leaf(alloc: Global) -> Px<Name> {
     names.pop().ok_or(PxError::OutOfBounds)
 }
 
-#[test]
-fn a_tree_comes_back_from_an_arena(rt: HostRuntime) -> Result<(), Fail> {
-    let alloc = rt.alloc();
-    assert!(rt; returns(alloc)?);
-    assert_eq!(rt; only_leaf(alloc)?.as_str(), "x");
-    Ok(())
-}
-
-fn name_of(alloc: Global) -> Px<Name> {
-    output_name(alloc, &one_more(alloc, "x")?)
-}
-
 fn is_copied(alloc: Global) -> Px<bool> {
     let expr = one_more(alloc, "x")?;
     let copy = expr.try_clone(alloc)?;
     Ok(is_one_more(&copy))
 }
 
-// The type over four rows of `k` and `x`.
-fn type_on_frame(alloc: Global, expr: &Expr) -> Px<Name> {
-    let scope = four_rows(alloc)?.schema(alloc)?;
-    told_type(alloc, type_of(alloc, expr, &scope, Context::Default))
-}
-
-fn type_of_each_group(alloc: Global, expr: &Expr) -> Px<Name> {
-    let scope = four_rows(alloc)?.schema(alloc)?;
-    told_type(alloc, type_on_groups(alloc, expr, &scope))
-}
-
-fn type_of_more(alloc: Global, name: &str) -> Px<Name> {
-    type_on_frame(alloc, &one_more(alloc, name)?)
-}
-
 #[test]
-fn an_expression_has_a_name_a_type_and_a_copy(rt: HostRuntime) -> Result<(), Fail> {
+fn a_tree_comes_back_from_an_arena(rt: HostRuntime) -> Result<(), Fail> {
     let alloc = rt.alloc();
-    assert_eq!(rt; name_of(alloc)?.as_str(), "x");
+    assert!(rt; returns(alloc)?);
+    assert_eq!(rt; only_leaf(alloc)?.as_str(), "x");
     assert!(rt; is_copied(alloc)?);
-    assert_eq!(rt;
-        type_of_more(alloc, "x")?.as_str(),
-        "[\"x\"]\n[\"Int64\"]\n"
-    );
-    assert_eq!(rt;
-        type_of_more(alloc, "y")?.as_str(),
-        "error: ColumnNotFound(\"y\")\n"
-    );
-    Ok(())
-}
-
-fn sum_of_sum(alloc: Global) -> Px<Expr> {
-    let sum = Expr::Agg(AggExpr::Sum(column(alloc, "x")?));
-    Ok(Expr::Agg(AggExpr::Sum(Rc::new(alloc, sum)?)))
-}
-
-fn sum_on_frame(alloc: Global) -> Px<Name> {
-    type_on_frame(alloc, &sum_of_sum(alloc)?)
-}
-
-fn sum_on_groups(alloc: Global) -> Px<Name> {
-    type_of_each_group(alloc, &sum_of_sum(alloc)?)
-}
-
-#[test]
-fn groups_refuse_more_than_the_frame(rt: HostRuntime) -> Result<(), Fail> {
-    let alloc = rt.alloc();
-    assert_eq!(rt; sum_on_frame(alloc)?.as_str(), "[\"x\"]\n[\"Int64\"]\n");
-    assert_eq!(rt;
-        sum_on_groups(alloc)?.as_str(),
-        "error: ComputeError(AggScalar)\n"
-    );
     Ok(())
 }

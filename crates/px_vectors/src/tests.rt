@@ -11,10 +11,7 @@ use std::marker::Brand;
 use std::sync::ledger::{Blank, Ledger};
 use std::test::Fail;
 
-mod generated;
 mod runs;
-mod steps;
-mod tables;
 
 /// The next number of a linear congruential generator, below the bound.
 fn next(state: &mut u64, bound: u32) -> u32

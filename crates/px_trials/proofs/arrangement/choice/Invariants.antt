@@ -1,4 +1,0 @@
-use Rattle.px_trials.proofs.arrangement.choice.Given as goal
-
-abbrev pub ghosts-counted_choice : goal.ghosts-counted_choice
-ghosts-counted_choice a = record { name = a.blank.name; parts = a.blank.parts }
