@@ -11,6 +11,7 @@ use std::marker::Brand;
 use std::sync::ledger::{Blank, Ledger};
 use std::test::Fail;
 
+mod on_groups;
 mod runs;
 
 /// The next number of a linear congruential generator, below the bound.
