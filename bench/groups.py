@@ -1,5 +1,5 @@
 #!/usr/bin/env python3
-"""Prints a Markdown table of px on group steps over ROWS rows, each beside pandas and sqlite3 on the same bytes, and of px on many aggregations.
+"""Prints a Markdown table of px on group steps over ROWS rows, each beside pandas, sqlite3 and data.table on the same bytes, and of px on many aggregations.
 
 groups.py PX [ROWS] ; PX is the path of the executable. Seconds are wall seconds of a whole run, each the best of three; a peer prints a line for each group.
 """
@@ -89,6 +89,8 @@ def peers(step):
             break
     if shutil.which("sqlite3"):
         yield "sqlite3", ["sqlite3", ":memory:", f".read {HERE}/peers/groups_{step}.sql"]
+    if shutil.which("Rscript"):
+        yield "data.table", ["Rscript", f"{HERE}/peers/groups.R", step]
 
 
 def measure(px, made):

@@ -1,6 +1,7 @@
 pub mod Applied
 pub mod Cells
 pub mod Columns
+pub mod Costs
 pub mod Counts
 pub mod InputLists
 pub mod Inputs

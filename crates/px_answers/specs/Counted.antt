@@ -1,6 +1,7 @@
 -- How often kernels ran while expressions were evaluated.
-use Rattle.std.specs.Prelude.{◌≡◌, ℕ, ◌+◌, ◌≤◌, true, List, IfSome, if◌then◌else◌}
+use Rattle.std.specs.Prelude.{◌≡◌, ℕ, ◌+◌, ◌≤◌, true, List, Option, IfSome, option_map, sum, if◌then◌else◌}
 use Rattle.std.specs.List.{sum_by}
+use Rattle.px_column.specs.Option.{each}
 use Rattle.px_frame.specs.External.{Frame}
 use Rattle.px_tree.specs.Cost.{is_flat, are_flat_rows, ticks_of, all_ticks_of, cost_on}
 use Rattle.px_tree.specs.Nodes.{all_nodes_of}
@@ -11,10 +12,18 @@ use Rattle.px_answers.specs.Planned.{Planned}
 abbrev pub RunExactly : Tree → ℕ → ℕ → Type 0
 RunExactly e old new = is_flat e ≡ true → new ≡ old + ticks_of e
 
+-- a count rose by no more than a bound, where there is one
+abbrev pub RisesAtMost : Option ℕ → ℕ → ℕ → Type 0
+RisesAtMost bound old new = IfSome bound (λ n. new ≤ old + n)
+
 -- a count never fell, and rose by no more than an expression's cost, where it has one
 pub record RunAtMost (e : Tree) (frame : Frame) (old new : ℕ) : Type 0 where
   pub rises : old ≤ new
-  pub cost : IfSome (cost_on e frame) (λ n. new ≤ old + n)
+  pub cost : RisesAtMost (cost_on e frame) old new
+
+-- the costs of some expressions on a frame together, where each has one
+abbrev pub costs_on : List Tree → Frame → Option ℕ
+costs_on es frame = option_map sum (each (λ e. cost_on e frame) es)
 
 -- the same of some expressions, each of which is flat and no reduction
 abbrev pub RunAllExactly : Trees → ℕ → ℕ → Type 0

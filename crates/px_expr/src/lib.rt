@@ -37,7 +37,7 @@ pub use gather::GatherExpr;
 pub use literal::{LiteralExpr, literal_column};
 pub use phys_expr::{PhysExpr, evaluate_cell, evaluate_cells, has_literals_alone};
 pub use physical::PhysicalExpr;
-pub use planner::{create_physical_expr, create_physical_expressions_from_irs};
+pub use planner::{create_physical_expr, create_physical_expressions_from_irs, create_typed_expr};
 pub use px_plan::is_built;
 pub use slice::SliceExpr;
 pub use sort::SortExpr;

@@ -4,7 +4,7 @@ ghost use Rattle.px_column.specs.Prelude.{Answers};
 ghost use Rattle.px_frame.specs.CellView.{named_cell};
 ghost use Rattle.px_frame.specs.External.{alone};
 ghost use Rattle.px_tree.specs.Shape.{is_literal_tree, are_literal_trees};
-ghost use Rattle.px_answers.specs.Counted.{RunAllAtLeast, RunAllAtMost, RunAllExactly, RunAtMost, RunExactly};
+ghost use Rattle.px_answers.specs.Counted.{RisesAtMost, RunAllAtLeast, RunAllAtMost, RunAllExactly, RunAtMost, RunExactly, costs_on};
 ghost use Rattle.px_answers.specs.Live.{all_live_names, added, AddsFront};
 ghost use Rattle.px_expr.specs.NodeView.{plan_of};
 ghost use Rattle.px_answers.specs.Parts.{plan_trees};
@@ -323,7 +323,7 @@ pub fn evaluate_cell<L: Ledger, M: Ledger>(
 }
 
 /// The values of some nodes on a frame as cells, in their order, or why one of them has none.
-/// `kernels` rises at least by the kernels of the flat ones.
+/// `kernels` rises at least by the kernels of the flat ones, and at most by the costs of all.
 #[cycle(evaluate)]
 #[tactic(auto, using(crate::proofs::CellsInOrder::front_none, crate::proofs::CellsInOrder::none_ran))]
 pub fn evaluate_cells<L: Ledger, M: Ledger>(
@@ -340,6 +340,7 @@ pub fn evaluate_cells<L: Ledger, M: Ledger>(
     ensures grouped { groupings.new ≡ groupings.old }
     ensures ticks { OnOk result (RunAllExactly (plan_trees (map plan_of nodes.now)) kernels.old kernels.new) }
     ensures least { OnOk result (RunAllAtLeast (map plan_of nodes.now) kernels.old kernels.new) }
+    ensures most { OnOk result (RisesAtMost (costs_on (map (λ n. (plan_of n).tree) nodes.now) (alone df.now)) kernels.old kernels.new) }
     ensures cost { RunAllAtMost (plan_trees (map plan_of nodes.now)) kernels.old kernels.new }
 {
     let mut cells = Vec::with_capacity(alloc, nodes.len())?;

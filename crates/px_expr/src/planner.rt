@@ -1,10 +1,11 @@
 //! From expressions in an arena to nodes.
-ghost use Rattle.std.specs.Prelude.{◌≡◌, ◌<◌, true, false, length, map, Ok, IfErr, OnOk, OnErr};
+ghost use Rattle.std.specs.Prelude.{◌≡◌, ◌<◌, true, false, length, map, Ok, IfErr, IfOk, OnOk, OnErr};
 ghost use Rattle.std.specs.List.{All};
-ghost use Rattle.px_column.specs.Prelude.{AnswersBy};
+ghost use Rattle.px_column.specs.Prelude.{AnswersBy, kind_of};
 ghost use Rattle.px_arena.specs.Arena.{tree_at};
 ghost use Rattle.px_tree.specs.Built.{is_built_tree};
 ghost use Rattle.px_tree.specs.Shape.{have_window};
+ghost use Rattle.px_tree.specs.Typing.{type_of};
 ghost use Rattle.px_tree.specs.View.{tree, trees, agg_tree};
 ghost use Rattle.px_expr.specs.NodeView.{plan_of};
 ghost use Rattle.px_expr.specs.Plan.{plan_in, plans_in, planned_over, all_planned_over, noted, all_noted, IsPlannable, NotesFront};
@@ -20,7 +21,7 @@ use nodes::{
     plan_aggregation, plan_alias, plan_binary, plan_cast, plan_column, plan_filter, plan_gather,
     plan_literal, plan_slice, plan_sort, plan_sort_by, plan_ternary,
 };
-use px_column::{GroupByMethod, Px};
+use px_column::{DataType, GroupByMethod, Px};
 use px_frame::SchemaRef;
 use px_plan::{AggExpr, Arena, Context, Expr, ExprIR, Exprs, FunctionExpr, node_to_expr, type_of};
 use std::alloc::Global;
@@ -66,8 +67,28 @@ pub fn create_physical_expr(
     ensures noted { OnOk result (state.new ≡ noted (tree_at expr_arena.now expr_ir.now.node) state.old) }
     ensures refused { OnErr result (state.new ≡ state.old) }
 {
+    let (plan, _) = create_typed_expr(alloc, expr_ir, ctxt, expr_arena, schema, state)?;
+    Ok(plan)
+}
+
+/// The same node, and the type of its values over the schema in this context.
+pub fn create_typed_expr(
+    alloc: Global,
+    expr_ir: &ExprIR,
+    ctxt: Context,
+    expr_arena: &Arena,
+    schema: &SchemaRef,
+    state: &mut ExpressionConversionState,
+) -> Px<(PhysExpr, DataType)>
+    requires node { expr_ir.now.node.0 < length expr_arena.now }
+    requires built { is_built_tree (tree_at expr_arena.now expr_ir.now.node) ≡ true }
+    ensures node { AnswersBy (λ p. plan_of p.0) result (plan_in expr_ir.now.alias (tree_at expr_arena.now expr_ir.now.node) schema.now.value ctxt) }
+    ensures dtype { IfOk result (λ p. type_of (tree_at expr_arena.now expr_ir.now.node) schema.now.value ctxt ≡ Ok (kind_of p.1)) }
+    ensures noted { OnOk result (state.new ≡ noted (tree_at expr_arena.now expr_ir.now.node) state.old) }
+    ensures refused { OnErr result (state.new ≡ state.old) }
+{
     let expr = node_to_expr(alloc, expr_ir.node(), expr_arena)?;
-    type_of(alloc, &expr, schema, ctxt)?;
+    let dtype = type_of(alloc, &expr, schema, ctxt)?;
     let noted = state.noting(&expr);
     let input = plan_expr(alloc, &expr, schema)?;
     let plan = match expr_ir.get_alias() {
@@ -75,7 +96,7 @@ pub fn create_physical_expr(
         Some(name) => plan_alias(alloc, input, name, expr)?,
     };
     *state = noted;
-    Ok(plan)
+    Ok((plan, dtype))
 }
 
 // The node of an expression that has no refusal over the schema; the nodes share its parts.

@@ -3,7 +3,8 @@ use Rattle.std.proofs.Common.{◌≡◌, ℕ, true, false, List, Option, Some, N
 use Rattle.std.specs.List.{list_all}
 use Rattle.std.specs.Prelude.{OnOk}
 use Rattle.px_frame.specs.External.{Frame}
-use Rattle.px_steps.specs.Plain.{RisesAtMost, most_kernels_in}
+use Rattle.px_answers.specs.Counted.{RisesAtMost}
+use Rattle.px_steps.specs.Plain.{most_kernels_in}
 use Rattle.px_column.specs.Prelude.{Series}
 use Rattle.px_value.specs.declared.error.PxError.{PxError}
 use Rattle.px_tree.specs.Built.{is_built_tree}

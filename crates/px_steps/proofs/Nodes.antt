@@ -1,63 +1,47 @@
 -- Nodes of expressions: which type they have, and that they are planned and not refused.
-use Rattle.std.proofs.Common.{◌≡◌, inl, inr, Bool, true, false, not, List, [], ◌∷◌, ◌++◌, Some, Ok, map, refl, sym, ◌∙◌, ap, subst}
+use Rattle.std.proofs.Common.{◌≡◌, inl, inr, Bool, true, false, not, List, [], ◌∷◌, ◌++◌, Option, Some, None, Ok, map, refl, sym, ◌∙◌, ap, subst}
 use Rattle.std.specs.List.{flat_map, list_all}
-use Rattle.px_column.specs.Prelude.{Kind, Refuses, Series}
-use Rattle.px_column.specs.Result.{◌>>=◌}
+use Rattle.px_column.specs.Prelude.{Kind, Series}
 use Rattle.px_value.specs.declared.error.PxError.{PxError}
-use Rattle.px_value.specs.declared.error.PxError.TheVariants.{OutOfMemory}
-use Rattle.px_answers.specs.Live.{field_of, field_on}
 use Rattle.px_answers.specs.Planned.{Planned}
 use Rattle.px_expr.specs.NodeView.{plan_of}
 use Rattle.px_expr.specs.Plan.{planned_over}
 use Rattle.px_expr.specs.declared.phys_expr.PhysExpr.{PhysExpr}
-use Rattle.px_frame.specs.Schema.{FieldKind, column_field}
+use Rattle.px_frame.specs.Schema.{column_field}
 use Rattle.px_tree.specs.Built.{is_built_tree}
 use Rattle.px_tree.specs.Shape.{name_of}
 use Rattle.px_tree.specs.Tree.{Tree}
-use Rattle.px_tree.specs.Typing.{Scope, fails, first_or_kind, kind_in, refusals_of, refused_where}
+use Rattle.px_tree.specs.Typing.{Scope, fails, first_or_kind, kind_in, refusals_of, refused_where, type_of}
 use Rattle.px_tree.specs.declared.context.Context.{Context}
 use Rattle.px_tree.specs.declared.context.Context.TheVariants.{Default}
-use Rattle.px_tree.proofs.KindLaws.{kind_there, none_left as nil_left, none_right as nil_right}
+use Rattle.px_tree.proofs.KindLaws.{none_left as nil_left, none_right as nil_right}
 use Rattle.px_value.proofs.FitLaws.{both}
 use Rattle.px_steps.specs.Finds.{AreAccepted, GroupPlans, IsAccepted, group_plans, node_tree, plans_over}
 use Rattle.px_steps.specs.declared.group_step.GroupNodes.{GroupNodes}
-use Rattle.px_steps.specs.Meets.{IsFirst}
 use Rattle.px_steps.specs.Plain.{first_of}
-use Rattle.px_steps.proofs.Grouping.{no_refusal}
 use Rattle.px_steps.proofs.Members.{In}
 
--- want of memory may always be told
-pub memory_first : (e : PxError) (refusals : List PxError) → e ≡ OutOfMemory → IsFirst e refusals
-memory_first e refusals m = subst (λ (x : PxError). IsFirst x refusals) (sym m) tt
+-- a type that is found is the expression's
+pub kind_typed : (t : Tree) (scope : Scope) (place : Context) (k : Kind) → type_of t scope place ≡ Ok k → kind_in t scope ≡ Some k
+kind_typed t scope place k h = by (refusals_of t scope place) (kind_in t scope) h
+  where
+    by : (R : List PxError) (K : Option Kind) → first_or_kind R K ≡ Ok k → K ≡ Some k
+    by [] (Some l) h = let same : l ≡ k = cc in ap Some same
+    by [] None h = absurd (cc h)
+    by (e ∷ es) K h = absurd (cc h)
 
-module _ (p : Planned) (t : Tree) (scope : Scope) (built : is_built_tree t ≡ true) (none : refusals_of t scope Default ≡ []) (made : Some (planned_over scope t) ≡ Some p) where
-  -- the name and type of a node that is not refused
-  field_there : (k : Kind) → kind_in t scope ≡ Some k → field_on p.tree scope ≡ Ok (record { name = name_of t; kind = k })
-  field_there k e =
-      let same : planned_over scope t ≡ p = cc in
-      ap (λ (q : Planned). field_on q.tree scope) (sym same) ∙ (λ i. first_or_kind (none i) (e i) >>= field_of (name_of t))
+-- of an expression that is not refused, and whose type is tested
+module _ (t : Tree) (scope : Scope) (none : refusals_of t scope Default ≡ []) (test : Kind → Bool) (e : PxError) (k : Kind) (typed : kind_in t scope ≡ Some k) where
+  told : (b : Bool) → test k ≡ b → refusals_of t scope Default ++ refused_where (fails test (kind_in t scope)) e ≡ refused_where (not b) e
+  told b h = (λ i. none i ++ refused_where (fails test (typed i)) e) ∙ ap (λ (c : Bool). refused_where (not c) e) h
 
-  -- which is refused for want of memory alone
-  pub field_memory : (e : PxError) → Refuses e (field_on p.tree scope) → e ≡ OutOfMemory
-  field_memory e h = let k = kind_there t scope Default none in no_refusal e (field_on p.tree scope) _ (field_there k.0 k.1) h
+  -- a type that passes is not refused for it
+  pub type_passes : test k ≡ true → refusals_of t scope Default ++ refused_where (fails test (kind_in t scope)) e ≡ []
+  type_passes h = told true h
 
-  module _ (test : Kind → Bool) (e : PxError) (f : FieldKind) (field : field_on p.tree scope ≡ Ok f) where
-    typed : kind_in t scope ≡ Some f.kind
-    typed =
-        let k = kind_there t scope Default none in
-        let same : record { name = name_of t; kind = k.0 } ≡ f = cc (field_there k.0 k.1, field) in
-        k.1 ∙ ap (λ (x : FieldKind). Some x.kind) same
-
-    told : (b : Bool) → test f.kind ≡ b → refusals_of t scope Default ++ refused_where (fails test (kind_in t scope)) e ≡ refused_where (not b) e
-    told b h = (λ i. none i ++ refused_where (fails test (typed i)) e) ∙ ap (λ (c : Bool). refused_where (not c) e) h
-
-    -- a type that passes a test is not refused for it
-    pub type_passes : test f.kind ≡ true → refusals_of t scope Default ++ refused_where (fails test (kind_in t scope)) e ≡ []
-    type_passes h = told true h
-
-    -- and another one is
-    pub type_fails : test f.kind ≡ false → first_of (refusals_of t scope Default ++ refused_where (fails test (kind_in t scope)) e) ≡ Some e
-    type_fails h = ap first_of (told false h)
+  -- and another one is
+  pub type_fails : test k ≡ false → first_of (refusals_of t scope Default ++ refused_where (fails test (kind_in t scope)) e) ≡ Some e
+  type_fails h = ap first_of (told false h)
 
 -- a planned expression among some is not refused
 pub in_accepted : (cs : List Series) (place : Context) (ps : List Planned) (p : Planned) → In p ps → AreAccepted ps cs place → IsAccepted p cs place

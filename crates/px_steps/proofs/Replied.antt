@@ -11,7 +11,8 @@ use Rattle.px_tree.specs.Built.{is_built}
 use Rattle.px_steps.specs.Causes.{AreRun, IsCauseIn}
 use Rattle.px_document.specs.Document.{Doc}
 use Rattle.px_document.specs.Label.{line_of}
-use Rattle.px_steps.specs.Plain.{RisesAtMost, groupings_of, kernels_of, most_kernels_of, plain_on}
+use Rattle.px_answers.specs.Counted.{RisesAtMost}
+use Rattle.px_steps.specs.Plain.{groupings_of, kernels_of, most_kernels_of, plain_on}
 use Rattle.px_document.specs.DocumentText.{IsDocument}
 use Rattle.px_steps.specs.Reply.{IsResult, IsRefusal}
 use Rattle.px_document.specs.Text.{text_of}

@@ -11,7 +11,8 @@ use Rattle.px_answers.specs.Value.{IsOneOf}
 use Rattle.px_frame.specs.External.{Frame, alone}
 use Rattle.px_tree.specs.Built.{is_built}
 use Rattle.px_steps.specs.Causes.{AreRun, IsCauseIn, StandsIn, StepAnswers, StepsAnswer}
-use Rattle.px_steps.specs.Plain.{AreValid, RisesAtMost, groupings_in, groupings_of, kernels_in, kernels_of, most_kernels_in, most_kernels_of, plain_on, step_on}
+use Rattle.px_answers.specs.Counted.{RisesAtMost}
+use Rattle.px_steps.specs.Plain.{AreValid, groupings_in, groupings_of, kernels_in, kernels_of, most_kernels_in, most_kernels_of, plain_on, step_on}
 use Rattle.px_tree.specs.Step.{PlainStep, step_view}
 use Rattle.px_tree.specs.declared.step.Step.{Step}
 use Rattle.px_value.proofs.FitLaws.{both}

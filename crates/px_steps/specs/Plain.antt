@@ -1,5 +1,5 @@
 -- What steps mean on plain frames, why they are refused, and the faults of their values.
-use Rattle.std.specs.Prelude.{◌≡◌, ℕ, ◌+◌, ◌^◌, ◌<◌, ◌≤◌, IfSome, length, not, ◌==◌, List, [], ◌∷◌, ◌++◌, Option, Some, None, Result, Ok, Err, map, max, sum, option_map, if◌then◌else◌}
+use Rattle.std.specs.Prelude.{◌≡◌, ℕ, ◌+◌, ◌^◌, ◌<◌, length, not, ◌==◌, List, [], ◌∷◌, ◌++◌, Option, Some, None, Result, Ok, Err, map, max, sum, option_map, if◌then◌else◌}
 use Rattle.std.specs.List.{flat_map, filter_map, list_any, sum_by}
 use Rattle.std.specs.Option.{option_map_or}
 use Rattle.std.specs.Result.{result_ok}
@@ -11,7 +11,7 @@ use Rattle.px_value.specs.declared.error.PxError.TheVariants.{Duplicate, Invalid
 use Rattle.px_value.specs.declared.error.InvalidWhy.TheVariants.{ListKey}
 use Rattle.px_value.specs.declared.error.ComputeWhy.TheVariants.{NoKey, NotPartitionSafe, ChunkLengths}
 use Rattle.px_frame.specs.Cell.{Cell, value_of_cell}
-use Rattle.px_answers.specs.Counted.{flat_kernels}
+use Rattle.px_answers.specs.Counted.{costs_on, flat_kernels}
 use Rattle.px_frame.specs.External.{Frame, height, scope_of, rows_of_frame}
 use Rattle.px_frame.specs.Frame.{height_of, first_repeat, kept_series}
 use Rattle.px_frame.specs.Groups.{first_row}
@@ -208,10 +208,6 @@ kernels_in (group keys aggs chunks) = sum_by flat_kernels keys + sum_by flat_ker
 abbrev pub kernels_of : List PlainStep → ℕ
 kernels_of steps = sum_by kernels_in steps
 
--- the costs of some expressions on a frame together, where each has one
-abbrev pub costs_on : List Tree → Frame → Option ℕ
-costs_on es frame = option_map sum (each (λ e. cost_on e frame) es)
-
 -- the costs of some aggregations on n groups together
 abbrev pub group_costs : List Tree → ℕ → ℕ
 group_costs aggs n = sum_by (λ e. group_cost e n) aggs
@@ -232,7 +228,3 @@ most_kernels_of (s ∷ steps) frame = do
   next ← step_on s frame
   more ← most_kernels_of steps next
   Some (n + more)
-
--- a count rose by no more than a bound, where there is one
-abbrev pub RisesAtMost : Option ℕ → ℕ → ℕ → Type 0
-RisesAtMost bound old new = IfSome bound (λ n. new ≤ old + n)

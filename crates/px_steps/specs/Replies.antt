@@ -3,7 +3,8 @@ use Rattle.std.specs.Prelude.{◌≡◌, ◌≤◌, ℕ, ◌+◌, List}
 use Rattle.px_document.specs.Label.{bad_document_line}
 use Rattle.px_document.specs.Document.{Doc}
 use Rattle.px_frame.specs.External.{alone}
-use Rattle.px_steps.specs.Plain.{RisesAtMost, groupings_of, kernels_of, most_kernels_of}
+use Rattle.px_answers.specs.Counted.{RisesAtMost}
+use Rattle.px_steps.specs.Plain.{groupings_of, kernels_of, most_kernels_of}
 use Rattle.px_document.specs.DocumentText.{IsDocument}
 use Rattle.px_steps.specs.Reply.{IsResult, IsRefusal, IsNoDocument}
 use Rattle.px_steps.specs.declared.reply.Reply.{Reply}

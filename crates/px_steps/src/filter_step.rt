@@ -9,11 +9,12 @@ ghost use Rattle.px_tree.specs.View.{tree};
 ghost use Rattle.px_steps.specs.Causes.{StepAnswers};
 ghost use Rattle.px_steps.specs.Finds.{mask_refusals};
 ghost use Rattle.px_steps.specs.Meets.{MeetsBy};
-ghost use Rattle.px_steps.specs.Plain.{RisesAtMost, kernels_in, most_kernels_in};
+ghost use Rattle.px_answers.specs.Counted.{RisesAtMost};
+ghost use Rattle.px_steps.specs.Plain.{kernels_in, most_kernels_in};
 
-use crate::planning::{plan_expr, spread_value};
+use crate::planning::{plan_typed, spread_value};
 use px_column::{Px, PxError, Steps, is_boolean};
-use px_expr::{PhysExpr, PhysicalExpr};
+use px_expr::PhysExpr;
 use px_frame::{DataFrame, SchemaRef};
 use px_plan::{Context, Expr};
 use px_window::ExecutionState;
@@ -26,9 +27,8 @@ fn plan_mask(alloc: Global, mask: &Expr, schema: &SchemaRef) -> Px<PhysExpr>
     requires { is_built_tree (tree mask.now) ≡ true }
     ensures { MeetsBy plan_of result (mask_refusals schema.now.value (tree mask.now)) (Some (planned_over schema.now.value (tree mask.now))) }
 {
-    let node = plan_expr(alloc, mask, schema, Context::Default)?;
-    let field = node.to_field(alloc, schema)?;
-    if is_boolean(&field.dtype) {
+    let (node, dtype) = plan_typed(alloc, mask, schema, Context::Default)?;
+    if is_boolean(&dtype) {
         Ok(node)
     } else {
         Err(PxError::SchemaMismatch)

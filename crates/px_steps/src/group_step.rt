@@ -4,7 +4,7 @@ ghost use Rattle.std.specs.List.{flat_map, list_all, sum_by};
 ghost use Rattle.px_column.specs.Prelude.{Answers};
 ghost use Rattle.px_column.specs.Option.{each};
 ghost use Rattle.px_tree.specs.Built.{is_built_tree};
-ghost use Rattle.px_answers.specs.Counted.{flat_kernels};
+ghost use Rattle.px_answers.specs.Counted.{RisesAtMost, costs_on, flat_kernels};
 ghost use Rattle.px_frame.specs.Aggregate.{has_row};
 ghost use Rattle.px_frame.specs.External.{alone};
 ghost use Rattle.px_frame.specs.Frame.{first_repeat, height_of, names_of};
@@ -22,14 +22,14 @@ ghost use Rattle.px_steps.specs.Causes.{StepAnswers};
 ghost use Rattle.px_steps.specs.Finds.{AreAccepted, Finds, FindsBy, group_plans, key_faults, node_tree, part_faults, part_frames, plans_over, typed_key_refusals};
 ghost use Rattle.px_document.specs.Form.{with_front};
 ghost use Rattle.px_steps.specs.Meets.{Meets, MeetsBy};
-ghost use Rattle.px_steps.specs.Plain.{RisesAtMost, aggregated_on, columns_on, costs_on, greatest, group_costs, kernels_in, key_on, most_kernels_in, repeat_refusal, step_refusals};
+ghost use Rattle.px_steps.specs.Plain.{aggregated_on, columns_on, greatest, group_costs, kernels_in, key_on, most_kernels_in, repeat_refusal, step_refusals};
 ghost use Rattle.px_tree.specs.Step.{group};
 
 use crate::aggregation::aggregate;
-use crate::planning::{add_names, plan_all, plan_expr, spread_value};
+use crate::planning::{add_names, plan_all, plan_typed, spread_value};
 use indexmap::IndexSet;
 use px_column::{Column, ComputeWhy, InvalidWhy, Px, PxError, Steps};
-use px_expr::{PhysExpr, PhysicalExpr};
+use px_expr::PhysExpr;
 use px_frame::{DataFrame, GroupPositions, SchemaRef, group_by, key_rows};
 use px_plan::{Context, Expr};
 use px_window::ExecutionState;
@@ -49,9 +49,8 @@ fn plan_key(alloc: Global, key: &Expr, schema: &SchemaRef) -> Px<PhysExpr>
     requires { is_built_tree (tree key.now) ≡ true }
     ensures { MeetsBy plan_of result (typed_key_refusals schema.now.value (tree key.now)) (Some (planned_over schema.now.value (tree key.now))) }
 {
-    let node = plan_expr(alloc, key, schema, Context::Default)?;
-    let field = node.to_field(alloc, schema)?;
-    if field.dtype.is_list() {
+    let (node, dtype) = plan_typed(alloc, key, schema, Context::Default)?;
+    if dtype.is_list() {
         Err(PxError::InvalidOperation(InvalidWhy::ListKey))
     } else {
         Ok(node)

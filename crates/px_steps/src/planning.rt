@@ -1,40 +1,42 @@
 //! Expressions as nodes, and what these give on a frame.
-ghost use Rattle.std.specs.Prelude.{◌≡◌, ◌+◌, ◌≤◌, ◌++◌, ◌∷◌, [], Some, OnOk, map, true};
+ghost use Rattle.std.specs.Prelude.{◌≡◌, ◌+◌, ◌≤◌, ◌++◌, ◌∷◌, [], Some, IfOk, OnOk, map, true};
 ghost use Rattle.std.specs.List.{flat_map, list_all};
 ghost use Rattle.px_tree.specs.Built.{is_built_tree};
-ghost use Rattle.px_answers.specs.Counted.{flat_kernels};
+ghost use Rattle.px_answers.specs.Counted.{RisesAtMost, flat_kernels};
 ghost use Rattle.px_expr.specs.NodeView.{plan_of};
 ghost use Rattle.px_expr.specs.Plan.{planned_over};
+ghost use Rattle.px_column.specs.Prelude.{kind_of};
 ghost use Rattle.px_frame.specs.External.{alone};
 ghost use Rattle.px_tree.specs.Cost.{cost_on};
 ghost use Rattle.px_tree.specs.Shape.{name_of};
 ghost use Rattle.px_tree.specs.Size.{size_on};
-ghost use Rattle.px_tree.specs.Typing.{refusals_of};
+ghost use Rattle.px_tree.specs.Typing.{kind_in, refusals_of};
 ghost use Rattle.px_tree.specs.View.{tree};
 ghost use Rattle.px_tree.specs.declared.context.Context.TheVariants.{Default};
 ghost use Rattle.px_steps.specs.Finds.{Finds, IsAccepted, key_faults, node_tree, repeat_beside};
 ghost use Rattle.px_steps.specs.Meets.{Meets, MeetsBy};
-ghost use Rattle.px_steps.specs.Plain.{RisesAtMost, key_on};
+ghost use Rattle.px_steps.specs.Plain.{key_on};
 
 use indexmap::IndexSet;
-use px_column::{Column, Name, Px, PxError, Steps};
-use px_expr::{ExpressionConversionState, PhysExpr, create_physical_expr, evaluate_cell};
+use px_column::{Column, DataType, Name, Px, PxError, Steps};
+use px_expr::{ExpressionConversionState, PhysExpr, create_typed_expr, evaluate_cell};
 use px_frame::{DataFrame, SchemaRef, add_name, spread};
 use px_plan::{Arena, Context, Expr, ExprIR, fits_arena, output_name, to_arena};
 use px_window::ExecutionState;
 use std::alloc::Global;
 use std::sync::ledger::Ledger;
 
-/// The node of an expression over a schema, or its first refusal in its place.
-#[tactic(auto, using(crate::proofs::Selected::planned_meets))]
-pub(crate) fn plan_expr(
+/// The node of an expression over a schema and the type of its values, or its first refusal in its place.
+#[tactic(auto, using(crate::proofs::Selected::planned_meets, crate::proofs::Nodes::kind_typed))]
+pub(crate) fn plan_typed(
     alloc: Global,
     expr: &Expr,
     schema: &SchemaRef,
     context: Context,
-) -> Px<PhysExpr>
+) -> Px<(PhysExpr, DataType)>
     requires { is_built_tree (tree expr.now) ≡ true }
-    ensures { MeetsBy plan_of result (refusals_of (tree expr.now) schema.now.value context) (Some (planned_over schema.now.value (tree expr.now))) }
+    ensures node { MeetsBy (λ p. plan_of p.0) result (refusals_of (tree expr.now) schema.now.value context) (Some (planned_over schema.now.value (tree expr.now))) }
+    ensures dtype { IfOk result (λ p. kind_in (tree expr.now) schema.now.value ≡ Some (kind_of p.1)) }
 {
     let mut arena = Arena::new(alloc)?;
     if !fits_arena(expr, &arena) {
@@ -43,7 +45,16 @@ pub(crate) fn plan_expr(
     let node = to_arena(alloc, expr, &mut arena)?;
     let expr_ir = ExprIR::new(node, None);
     let mut noted = ExpressionConversionState::new(0);
-    create_physical_expr(alloc, &expr_ir, context, &arena, schema, &mut noted)
+    create_typed_expr(alloc, &expr_ir, context, &arena, schema, &mut noted)
+}
+
+/// The node alone.
+fn plan_expr(alloc: Global, expr: &Expr, schema: &SchemaRef, context: Context) -> Px<PhysExpr>
+    requires { is_built_tree (tree expr.now) ≡ true }
+    ensures { MeetsBy plan_of result (refusals_of (tree expr.now) schema.now.value context) (Some (planned_over schema.now.value (tree expr.now))) }
+{
+    let (node, _) = plan_typed(alloc, expr, schema, context)?;
+    Ok(node)
 }
 
 /// The nodes of some expressions over a schema, in their order, or the first refusal from the left.

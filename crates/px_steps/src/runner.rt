@@ -5,7 +5,8 @@ ghost use Rattle.px_value.specs.declared.error.PxError.TheVariants.{OutOfMemory}
 ghost use Rattle.px_frame.specs.External.{alone};
 ghost use Rattle.px_tree.specs.Built.{is_built};
 ghost use Rattle.px_steps.specs.Causes.{AreRun, IsCauseIn, StepAnswers, StepsAnswer};
-ghost use Rattle.px_steps.specs.Plain.{AreValid, RisesAtMost, groupings_in, groupings_of, kernels_in, kernels_of, most_kernels_in, most_kernels_of, plain_on};
+ghost use Rattle.px_answers.specs.Counted.{RisesAtMost};
+ghost use Rattle.px_steps.specs.Plain.{AreValid, groupings_in, groupings_of, kernels_in, kernels_of, most_kernels_in, most_kernels_of, plain_on};
 ghost use Rattle.px_tree.specs.Step.{step_view};
 
 use crate::filter_step::filter_step;

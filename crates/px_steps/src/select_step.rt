@@ -1,24 +1,20 @@
 //! A select step: the columns of some expressions, side by side.
-ghost use Rattle.std.specs.Prelude.{◌≡◌, ◌+◌, ◌≤◌, Some, IfErr, IfOk, OnOk, map, true};
+ghost use Rattle.std.specs.Prelude.{◌≡◌, ◌+◌, ◌≤◌, Some, OnOk, map, true};
 ghost use Rattle.std.specs.List.{list_all};
-ghost use Rattle.px_answers.specs.Counted.{RunAllAtLeast};
-ghost use Rattle.px_answers.specs.Value.{AreCellsOf, IsCauseOfAny};
-ghost use Rattle.px_expr.specs.NodeView.{plan_of};
-ghost use Rattle.px_frame.specs.CellView.{named_cell};
+ghost use Rattle.px_answers.specs.Counted.{RisesAtMost};
 ghost use Rattle.px_frame.specs.External.{alone};
 ghost use Rattle.px_tree.specs.Built.{is_built_tree};
 ghost use Rattle.px_tree.specs.Step.{select};
 ghost use Rattle.px_tree.specs.View.{tree};
 ghost use Rattle.px_steps.specs.Causes.{StepAnswers};
-ghost use Rattle.px_steps.specs.Finds.{node_tree};
 ghost use Rattle.px_steps.specs.Meets.{Meets};
-ghost use Rattle.px_steps.specs.Plain.{RisesAtMost, costs_on, kernels_in, most_kernels_in, repeat_refusal};
+ghost use Rattle.px_steps.specs.Plain.{kernels_in, most_kernels_in, repeat_refusal};
 
 use crate::planning::{add_names, plan_all};
 use indexmap::IndexSet;
 use px_column::{Px, Steps};
-use px_expr::{PhysExpr, evaluate_cell};
-use px_frame::{Cell, DataFrame, assemble};
+use px_expr::evaluate_cells;
+use px_frame::{DataFrame, assemble};
 use px_plan::{Context, Expr};
 use px_window::ExecutionState;
 use std::alloc::Global;
@@ -30,30 +26,6 @@ fn distinct_names(alloc: Global, exprs: &[Expr]) -> Px<()>
     ensures { Meets result (repeat_refusal (map tree exprs.now)) (Some tt) }
 {
     add_names(alloc, &mut IndexSet::new(alloc), exprs)
-}
-
-/// The values of some nodes on a frame as cells, in their order, or why one of them has none.
-#[tactic(auto, using(px_expr::proofs::CellsInOrder::front_none))]
-fn evaluate_all<L: Ledger, M: Ledger>(
-    alloc: Global,
-    frame: &DataFrame,
-    nodes: &[PhysExpr],
-    state: &mut ExecutionState,
-    kernels: &mut Steps<L>,
-    groupings: &mut Steps<M>,
-) -> Px<Vec<Cell>>
-    ensures value { IfOk result (λ v. AreCellsOf (map plan_of nodes.now) (alone frame.now) (map named_cell v.items)) }
-    ensures causes { IfErr result (λ e. IsCauseOfAny e (map plan_of nodes.now) (alone frame.now)) }
-    ensures state { state.new ≡ state.old }
-    ensures grouped { groupings.new ≡ groupings.old }
-    ensures ticks { OnOk result (RunAllAtLeast (map plan_of nodes.now) kernels.old kernels.new) }
-    ensures most { OnOk result (RisesAtMost (costs_on (map node_tree nodes.now) (alone frame.now)) kernels.old kernels.new) }
-{
-    let mut cells = Vec::with_capacity(alloc, nodes.len())?;
-    for node in nodes {
-        cells.push(evaluate_cell(alloc, node, frame, state, kernels, groupings)?)?;
-    }
-    Ok(cells)
 }
 
 /// The columns of these expressions side by side. All expressions are typed before the first is
@@ -77,6 +49,6 @@ pub(crate) fn select_step<L: Ledger, M: Ledger>(
     let schema = Rc::new(alloc, frame.schema(alloc)?)?;
     let nodes = plan_all(alloc, exprs, &schema, Context::Default)?;
     distinct_names(alloc, exprs)?;
-    let cells = evaluate_all(alloc, frame, &nodes, state, kernels, groupings)?;
+    let cells = evaluate_cells(alloc, &nodes, frame, state, kernels, groupings)?;
     assemble(alloc, cells)
 }

@@ -22,6 +22,3 @@ pub use plain_step::{Aggregation, plain_group_step};
 pub use worked::{
     worked_documents, worked_lines, worked_parts, worked_refusals, worked_steps, worked_texts,
 };
-
-#[cfg(test)]
-mod tests;

@@ -1,5 +1,5 @@
 use Rattle.px_expr.specs.NodeView.{plan_of}
-use Rattle.std.proofs.Common.{subst, List, rules, ◌≡◌, ◌∙◌, Ok, ap, sym, ◌+◌, true, map}
+use Rattle.std.proofs.Common.{subst, List, ℕ, rules, ◌≡◌, ◌∙◌, Ok, ap, sym, ◌+◌, true, map}
 use Rattle.px_frame.specs.CellView.{named_cell}
 use Rattle.px_frame.specs.External.{alone}
 use Rattle.px_nodes.specs.Named.{gather_named, function_named, sort_by_named}
@@ -9,7 +9,9 @@ use Rattle.px_answers.proofs.Operands.{binary_value, cast_value, ternary_value}
 use Rattle.px_expr.proofs.Planning.{told_front}
 use Rattle.px_answers.proofs.Reductions.{reduction_value}
 use Rattle.px_answers.proofs.Selections.{filter_value, gather_value, slice_value, sort_cause, sort_value}
-use Rattle.px_answers.specs.Counted.{RunAtMost, RunExactly, RunAllExactly}
+use Rattle.px_answers.specs.Counted.{RisesAtMost, RunAtMost, RunExactly, RunAllExactly, costs_on}
+use Rattle.px_answers.proofs.Costs.{cost_end, cost_next}
+use Rattle.px_expr.specs.declared.phys_expr.PhysExpr.{PhysExpr}
 use Rattle.px_answers.specs.Parts.{PlannedSort, sort_plan, PlannedApply, plan_trees}
 use Rattle.px_answers.specs.Planned.{Planned}
 use Rattle.px_answers.specs.Value.{IsCause, IsCellOf, AreCellsOf}
@@ -184,6 +186,7 @@ phys_expr::evaluate_cells-loop-node-preserved t g c =
     let inv = c.loop-node.invariant in
     record {
       front = cells_next c.args.nodes.now c.loop-node.node-index c.node-item.result c.loop-node-test.true c.node-item.is (alone c.args.df.now) c.loop-node.cells.items c.args.kernels.now c.loop-node.kernels inv.front _ c.in_ok-evaluate_cell.field-0 c.evaluate_cell.new.kernels c.in_ok-push.ensures.items c.in_ok-evaluate_cell.ensures.value c.in_ok-evaluate_cell.ensures.ticks c.in_ok-evaluate_cell.ensures.cost;
+      most = cost_next (λ (n : PhysExpr). (plan_of n).tree) c.args.nodes.now c.loop-node.node-index c.node-item.result c.loop-node-test.true c.node-item.is (alone c.args.df.now) (λ (new : ℕ). RisesAtMost (costs_on (map (λ (n : PhysExpr). (plan_of n).tree) c.args.nodes.now) (alone c.args.df.now)) c.args.kernels.now new) c.loop-node.kernels c.evaluate_cell.new.kernels inv.most c.in_ok-evaluate_cell.ensures.cost.cost;
       state = c.in_ok-evaluate_cell.ensures.frame ∙ inv.state;
       grouped = c.in_ok-evaluate_cell.ensures.grouped ∙ inv.grouped;
     }
@@ -203,6 +206,10 @@ phys_expr::evaluate_cells-returns-clause-cost t g c =
 pub phys_expr::evaluate_cells-returns-clause-least : goal.phys_expr::evaluate_cells-returns-clause-least
 phys_expr::evaluate_cells-returns-clause-least t g c =
     (cells_done c.args.nodes.now c.loop-node.node-index (alone c.args.df.now) c.loop-node.cells.items c.args.kernels.now c.loop-node.kernels c.loop-node-test.false c.loop-node.invariant.front).1.1.1
+
+pub phys_expr::evaluate_cells-returns-clause-most : goal.phys_expr::evaluate_cells-returns-clause-most
+phys_expr::evaluate_cells-returns-clause-most t g c =
+    cost_end (λ (n : PhysExpr). (plan_of n).tree) c.args.nodes.now c.loop-node.node-index c.loop-node-test.false (alone c.args.df.now) (λ (new : ℕ). RisesAtMost (costs_on (map (λ (n : PhysExpr). (plan_of n).tree) c.args.nodes.now) (alone c.args.df.now)) c.args.kernels.now new) c.loop-node.kernels c.loop-node.invariant.most
 
 -- functions, and rows in the order of others
 pub apply::ApplyExprPhysicalExpr::evaluate-returns-clause-value : goal.apply::ApplyExprPhysicalExpr::evaluate-returns-clause-value

@@ -2,7 +2,7 @@ use Rattle.std.proofs.Common.{◌≡◌, ◌+◌, ◌≤◌, ◌∷◌, [], ◌�
 use Rattle.std.proofs.lemmas.Result.{err_from_is_err_and}
 use Rattle.px_expr.specs.NodeView.{plan_of}
 use Rattle.px_expr.specs.Plan.{planned_over}
-use Rattle.px_answers.specs.Counted.{flat_kernels}
+use Rattle.px_answers.specs.Counted.{RisesAtMost, flat_kernels}
 use Rattle.px_answers.specs.Planned.{Planned}
 use Rattle.px_frame.specs.External.{alone}
 use Rattle.px_frame.specs.Schema.{column_field}
@@ -11,7 +11,7 @@ use Rattle.px_tree.specs.Size.{size_on}
 use Rattle.px_tree.specs.View.{tree}
 use Rattle.px_tree.specs.declared.context.Context.TheVariants.{Default}
 use Rattle.px_steps.specs.Finds.{Lacks, key_faults}
-use Rattle.px_steps.specs.Plain.{RisesAtMost, key_on}
+use Rattle.px_steps.specs.Plain.{key_on}
 use Rattle.px_steps.proofs.Filtered.{lacks_cause, mask_accepted, mask_cause, mask_typed, rows_kept}
 use Rattle.px_steps.proofs.Grouping.{accepted_made}
 use Rattle.px_steps.proofs.Members.{on_ok}

@@ -1,13 +1,13 @@
 use Rattle.std.proofs.Common.{◌∙◌, ℕ, ◌∷◌, [], map}
 use Rattle.std.proofs.lemmas.Result.{err_from_is_err_and}
-use Rattle.px_answers.specs.Counted.{flat_kernels}
+use Rattle.px_answers.specs.Counted.{RisesAtMost, costs_on, flat_kernels}
 use Rattle.px_expr.specs.NodeView.{plan_of}
 use Rattle.px_frame.specs.External.{alone}
 use Rattle.px_tree.specs.Size.{size_on}
 use Rattle.px_tree.specs.declared.context.Context.TheVariants.{Default}
 use Rattle.px_steps.specs.Finds.{key_faults, node_tree}
-use Rattle.px_steps.specs.Plain.{RisesAtMost, costs_on, key_on}
-use Rattle.px_steps.proofs.Kernels.{cost_end, cost_next}
+use Rattle.px_steps.specs.Plain.{key_on}
+use Rattle.px_answers.proofs.Costs.{cost_end, cost_next}
 use Rattle.px_steps.proofs.Members.{in_here, lacks_in, least_next, sound_next, values_next}
 use Rattle.px_steps.proofs.Nodes.{in_accepted}
 use Rattle.px_steps.proofs.group_step.key_columns.Goals as goal

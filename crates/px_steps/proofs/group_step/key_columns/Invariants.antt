@@ -1,11 +1,11 @@
 use Rattle.std.proofs.Common.{◌≡◌, ℕ, ◌+◌, ◌≤◌, map, drop}
 use Rattle.std.specs.List.{flat_map, sum_by}
 use Rattle.px_column.specs.Option.{each}
-use Rattle.px_answers.specs.Counted.{flat_kernels}
+use Rattle.px_answers.specs.Counted.{RisesAtMost, costs_on, flat_kernels}
 use Rattle.px_frame.specs.External.{alone}
 use Rattle.px_steps.specs.Finds.{key_faults, node_tree}
 use Rattle.px_document.specs.Form.{with_front}
-use Rattle.px_steps.specs.Plain.{RisesAtMost, costs_on, key_on}
+use Rattle.px_steps.specs.Plain.{key_on}
 use Rattle.px_steps.proofs.group_step.key_columns.Given as goal
 
 abbrev pub invariant-loop-key : goal.invariant-loop-key

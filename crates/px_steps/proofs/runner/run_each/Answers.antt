@@ -2,7 +2,8 @@ use Rattle.std.proofs.Common.{ℕ, Ok, Err, ◌∙◌, map}
 use Rattle.std.proofs.lemmas.Result.{err_from_is_err_and}
 use Rattle.px_frame.specs.External.{alone}
 use Rattle.px_tree.specs.Step.{step_view}
-use Rattle.px_steps.specs.Plain.{RisesAtMost, most_kernels_of}
+use Rattle.px_answers.specs.Counted.{RisesAtMost}
+use Rattle.px_steps.specs.Plain.{most_kernels_of}
 use Rattle.px_steps.proofs.StepLoop.{built_next, answer_end, answer_next, cause_here, grouped_next, most_after, most_end, ticks_next}
 use Rattle.px_steps.proofs.runner.run_each.Goals as goal
 

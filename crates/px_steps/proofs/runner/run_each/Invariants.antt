@@ -5,7 +5,8 @@ use Rattle.px_value.specs.declared.error.PxError.{PxError}
 use Rattle.px_frame.specs.External.{alone}
 use Rattle.px_tree.specs.Built.{is_built}
 use Rattle.px_steps.specs.Causes.{StepsAnswer}
-use Rattle.px_steps.specs.Plain.{RisesAtMost, groupings_of, kernels_of, most_kernels_of}
+use Rattle.px_answers.specs.Counted.{RisesAtMost}
+use Rattle.px_steps.specs.Plain.{groupings_of, kernels_of, most_kernels_of}
 use Rattle.px_tree.specs.Step.{step_view}
 use Rattle.px_steps.proofs.runner.run_each.Given as goal
 

@@ -1,7 +1,7 @@
 use Rattle.std.proofs.Common.{◌≡◌, ◌≤◌, ◌+◌, ◌∙◌, List, map, sym, subst}
 use Rattle.std.proofs.lemmas.Result.{err_from_is_err_and}
 use Rattle.px_value.specs.declared.error.PxError.{PxError}
-use Rattle.px_answers.specs.Counted.{RunAllAtLeast}
+use Rattle.px_answers.specs.Counted.{RisesAtMost, RunAllAtLeast, costs_on}
 use Rattle.px_expr.specs.Plan.{planned_over}
 use Rattle.px_answers.specs.Planned.{Planned}
 use Rattle.px_answers.specs.Value.{AreCellsOf, IsCauseOfAny}
@@ -12,7 +12,6 @@ use Rattle.px_tree.specs.View.{tree}
 use Rattle.px_tree.specs.Tree.{Tree}
 use Rattle.px_steps.specs.Finds.{node_tree}
 use Rattle.px_steps.specs.Meets.{IsFirst}
-use Rattle.px_steps.specs.Plain.{RisesAtMost, costs_on}
 use Rattle.px_steps.proofs.Nodes.{same_trees}
 use Rattle.px_steps.proofs.Selected.{cells_named, cells_sound, least_ticks, naming_cause, nodes_over, selected, typed_over, typing_cause, value_cause}
 use Rattle.px_steps.proofs.Members.{on_ok}
@@ -64,9 +63,9 @@ returns-clause-ticks g c =
     let ts = map tree c.args.exprs.now in
     let scope : c.in_ok-schema-2.schema.value ≡ map column_field cs = cc (c.in_ok-schema.ensures, c.in_ok-schema-2.ensures.ok) in
     let nodes = nodes_over c.in_ok-schema-2.schema.value cs ts c.in_ok-nodes.nodes.items scope c.in_ok-nodes.ensures.1 in
-    let least : RunAllAtLeast (map (planned_over (map column_field cs)) ts) c.args.kernels.now c.evaluate_all.new.kernels
-    = subst (λ (ps : List Planned). RunAllAtLeast ps c.args.kernels.now c.evaluate_all.new.kernels) nodes (rw c.deref.ensures.value at c.in_ok-cells.ensures.ticks) in
-    on_ok c.assemble.result (subst (λ n. c.args.kernels.now + n ≤ c.evaluate_all.new.kernels) (least_ticks (map column_field cs) ts) least)
+    let least : RunAllAtLeast (map (planned_over (map column_field cs)) ts) c.args.kernels.now c.evaluate_cells.new.kernels
+    = subst (λ (ps : List Planned). RunAllAtLeast ps c.args.kernels.now c.evaluate_cells.new.kernels) nodes (rw c.deref.ensures.value at c.in_ok-cells.ensures.least) in
+    on_ok c.assemble.result (subst (λ n. c.args.kernels.now + n ≤ c.evaluate_cells.new.kernels) (least_ticks (map column_field cs) ts) least)
 
 pub returns-clause-most : goal.returns-clause-most
 returns-clause-most g c =
@@ -75,5 +74,5 @@ returns-clause-most g c =
     let scope : c.in_ok-schema-2.schema.value ≡ map column_field cs = cc (c.in_ok-schema.ensures, c.in_ok-schema-2.ensures.ok) in
     let nodes = nodes_over c.in_ok-schema-2.schema.value cs ts c.in_ok-nodes.nodes.items scope c.in_ok-nodes.ensures.1 in
     let same = same_trees (map column_field cs) ts c.in_ok-nodes.nodes.items (sym nodes) in
-    let most : RisesAtMost (costs_on (map node_tree c.in_ok-nodes.nodes.items) (alone cs)) c.args.kernels.now c.evaluate_all.new.kernels = rw c.deref.ensures.value at c.in_ok-cells.ensures.most in
-    on_ok c.assemble.result (subst (λ (us : List Tree). RisesAtMost (costs_on us (alone cs)) c.args.kernels.now c.evaluate_all.new.kernels) same most)
+    let most : RisesAtMost (costs_on (map node_tree c.in_ok-nodes.nodes.items) (alone cs)) c.args.kernels.now c.evaluate_cells.new.kernels = rw c.deref.ensures.value at c.in_ok-cells.ensures.most in
+    on_ok c.assemble.result (subst (λ (us : List Tree). RisesAtMost (costs_on us (alone cs)) c.args.kernels.now c.evaluate_cells.new.kernels) same most)

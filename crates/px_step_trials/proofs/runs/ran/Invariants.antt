@@ -1,4 +1,4 @@
-use Rattle.px_vectors.proofs.tests.runs.ran.Given as goal
+use Rattle.px_step_trials.proofs.runs.ran.Given as goal
 
 abbrev pub ghosts-counted-L-Ledger : goal.ghosts-counted-L-Ledger
 ghosts-counted-L-Ledger a = record { name = a.kernels.name; parts = a.kernels.parts }

@@ -4,15 +4,20 @@ ghost use Rattle.std.specs.List.{list_all};
 ghost use Rattle.px_tree.specs.Built.{is_built};
 ghost use Rattle.px_tree.specs.Step.{step_view};
 
-use super::*;
-use crate::library_call::totals;
+use px_column::{Name, Px, PxError, Steps};
 use px_ends::{LIMIT, read_all, write_all};
+use px_frame::DataFrame;
 use px_steps::run::run;
 use px_steps::{
-    MemorySink, MemorySource, Status, StdinSource, StdoutSink, Step, frame_text, read_document,
-    run_steps,
+    MemorySink, MemorySource, Status, StdinSource, StdoutSink, Step, error_line, frame_text,
+    read_document, run_steps,
 };
+use px_vectors::totals;
 use px_window::ExecutionState;
+use std::alloc::Global;
+use std::marker::Brand;
+use std::sync::ledger::{Blank, Ledger};
+use std::test::Fail;
 
 const DOCUMENT: &str =
     r#"{"columns":[{"name":"k","type":"Int64","values":[7,9,7,7]},{"name":"x","type":"Int64","values":[0,1,2,3]}],"steps":[{"group":{"keys":[{"col":"k"}],"aggs":[{"agg":["Sum",{"col":"x"}]},{"len":null}],"chunks":null}}]}"#;

@@ -1,4 +1,4 @@
-use Rattle.px_vectors.proofs.tests.runs.totals_of.Given as goal
+use Rattle.px_step_trials.proofs.runs.totals_of.Given as goal
 
 abbrev pub ghosts-counted_totals-L-Ledger : goal.ghosts-counted_totals-L-Ledger
 ghosts-counted_totals-L-Ledger a = record { name = a.kernels.name; parts = a.kernels.parts }

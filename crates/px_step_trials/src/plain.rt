@@ -1,29 +1,15 @@
 //! The plain programs against the production code, on small frames.
 ghost use Rattle.std.specs.Prelude.{◌≡◌, ◌<◌};
 
-use crate::plain::plain_parts;
-use crate::plain_step::{Aggregation, plain_group_step};
+use crate::numbers::next;
 use px_column::{Column, DataType, Name, Px, PxError, Steps, Value, ValueRef};
 use px_frame::{DataFrame, GroupPositions, group_by};
 use px_steps::error_line;
+use px_vectors::{Aggregation, plain_group_step, plain_parts};
 use std::alloc::Global;
 use std::marker::Brand;
 use std::sync::ledger::{Blank, Ledger};
 use std::test::Fail;
-
-mod on_groups;
-mod runs;
-
-/// The next number of a linear congruential generator, below the bound.
-fn next(state: &mut u64, bound: u32) -> u32
-    requires { 0 < bound }
-    ensures { result < bound }
-{
-    *state = state
-        .wrapping_mul(6364136223846793005)
-        .wrapping_add(1442695040888963407);
-    ((*state >> 33) % bound as u64) as u32
-}
 
 /// A column of small integers and nulls.
 fn small_column(alloc: Global, state: &mut u64, name: &str, height: u32) -> Px<Column> {

@@ -2,7 +2,7 @@
 //! group alone.
 ghost use Rattle.std.specs.Prelude.{◌≡◌, ◌<◌};
 
-use super::next;
+use crate::numbers::next;
 use px_column::{ByteString, Column, GroupByMethod, Px, PxError, Steps};
 use px_expr::{
     ExpressionConversionState, PhysExpr, PhysicalExpr, create_physical_expr, evaluate_cell,

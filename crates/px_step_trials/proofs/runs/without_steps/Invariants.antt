@@ -1,4 +1,4 @@
-use Rattle.px_vectors.proofs.tests.runs.without_steps.Given as goal
+use Rattle.px_step_trials.proofs.runs.without_steps.Given as goal
 
 abbrev pub ghosts-counted_steps-L-Ledger : goal.ghosts-counted_steps-L-Ledger
 ghosts-counted_steps-L-Ledger a = record { name = a.kernels.name; parts = a.kernels.parts }
