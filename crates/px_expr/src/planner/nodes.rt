@@ -31,17 +31,18 @@ use std::alloc::Global;
 pub(crate) fn plan_column(alloc: Global, name: &Name, schema: &SchemaRef) -> Px<PhysExpr>
     ensures { AnswersBy plan_of result (Ok (planned_over schema.now.value (column name.now))) }
 {
-    let expr = Expr::Column(name.try_clone(alloc)?);
+    let schema = schema.clone()?;
+    let read = name.try_clone(alloc)?;
     let name = name.try_clone(alloc)?;
-    Ok(PhysExpr::Column(ColumnExpr::new(name, expr, schema.clone()?)))
+    Ok(PhysExpr::Column(ColumnExpr::new(name, Expr::Column(read), schema)))
 }
 
 pub(crate) fn plan_literal(alloc: Global, value: &LiteralValue) -> Px<PhysExpr>
     ensures { AnswersBy plan_of result (Ok (record { tree = literal (literal_of value.now); columns = [] })) }
 {
-    let expr = Expr::Literal(value.try_clone(alloc)?);
+    let copy = value.try_clone(alloc)?;
     let value = value.try_clone(alloc)?;
-    Ok(PhysExpr::Literal(LiteralExpr::new(value, expr)))
+    Ok(PhysExpr::Literal(LiteralExpr::new(value, Expr::Literal(copy))))
 }
 
 /// A node under a name, with the expression that the node stands for.
