@@ -166,34 +166,34 @@ fn told(alloc: Global, answer: Px<Column>) -> Px<ByteString> {
 }
 
 /// Three groups of six rows: rows that may repeat, no row, and one row.
-fn lists(alloc: Global, state: &mut u64) -> Px<GroupsType> {
-    let first = next(state, 6);
+fn lists(alloc: Global, state: &mut u64) -> Px<GroupPositions> {
+    let (first, last) = (next(state, 6), next(state, 6));
     let mut many = IdxVec::new(alloc);
     many.push(first)?;
     many.push(next(state, 6))?;
     many.push(next(state, 6))?;
-    let last = next(state, 6);
     let mut one = IdxVec::new(alloc);
     one.push(last)?;
-    let none = IdxVec::new(alloc);
-    Ok(GroupsType::Idx(vec![in alloc; (first, many), (0, none), (last, one)]?))
+    let groups = vec![in alloc; (first, many), (0, IdxVec::new(alloc)), (last, one)]?;
+    GroupPositions::new(GroupsType::Idx(groups), 6)
 }
 
 /// Two windows of six rows, which may overlap and be empty.
-fn slices(alloc: Global, state: &mut u64) -> Px<GroupsType> {
+fn slices(alloc: Global, state: &mut u64) -> Px<GroupPositions> {
     let (first, second) = (next(state, 4), next(state, 4));
     let groups = vec![in alloc; [first, next(state, 3)], [second, next(state, 4)]]?;
-    Ok(GroupsType::Slice {
+    let slices = GroupsType::Slice {
         groups,
         rolling: false,
-    })
+    };
+    GroupPositions::new(slices, 6)
 }
 
 fn groups(alloc: Global, state: &mut u64) -> Px<GroupPositions> {
     if next(state, 2) == 0 {
-        GroupPositions::new(lists(alloc, state)?, 6)
+        lists(alloc, state)
     } else {
-        GroupPositions::new(slices(alloc, state)?, 6)
+        slices(alloc, state)
     }
 }
 
