@@ -1,7 +1,7 @@
 #!/usr/bin/env python3
 """Prints a Markdown table of kernels of px over ROWS rows, each beside pandas on the same values.
 
-kernels.py PX [ROWS] ; PX is the path of the executable. A kernel's seconds are those of a run whose step has it, less those of a run whose step has not, each the best of three; pandas' are those of the call alone.
+kernels.py PX [ROWS] ; PX is the path of the executable. A kernel's seconds are an eighth of those of a run whose step has it eight times, less those of a run whose step has not, each the best of three; pandas' are those of the call alone.
 """
 
 import json
@@ -15,12 +15,20 @@ def col(name):
     return {"col": name}
 
 
-def count(expression):
-    return {"alias": [{"agg": ["Count", expression, True]}, "made"]}
+# How often a step has the kernel that is measured.
+TIMES = 8
+
+
+def count(expression, place=0):
+    return {"alias": [{"agg": ["Count", expression, True]}, f"made{place}"]}
 
 
 def select(expression):
-    return [{"select": [count(expression)]}]
+    return [{"select": [count(expression, place) for place in range(TIMES)]}]
+
+
+def named(expression):
+    return [{"alias": [expression, f"made{place}"]} for place in range(TIMES)]
 
 
 def group(aggregations):
@@ -133,7 +141,7 @@ def compare_all(px, pandas, title, kernels, columns_of, steps_of, bare, kind, ro
         calls = peers(data, kind) if kind else {"sort texts": lambda: data["t"].sort_values(kind="stable")}
     for name, expression in kernels.items():
         taken = [seconds_of(px, columns, steps_of(expression)) for columns in frames]
-        once, twice = (max(it - less, 0.0001) for it, less in zip(taken, base))
+        once, twice = (max(it - less, 0.0001) / TIMES for it, less in zip(taken, base))
         peer = pandas_seconds(calls[name]) if name in calls else None
         line(f"{name}{title}", once, twice, peer)
 
@@ -159,7 +167,7 @@ def main(px, rows="1000000"):
             f" of {groups} groups",
             GROUPED,
             lambda n: frame(n, groups if groups < rows else n),
-            lambda expression: group([{"alias": [expression, "made"]}]),
+            lambda expression: group(named(expression)),
             group([{"len": None}]),
             "grouped",
             rows,
