@@ -5,7 +5,7 @@ ghost use Rattle.px_column.specs.Prelude.{AnswersBy, kind_of};
 ghost use Rattle.px_frame.specs.CellView.{named_cell};
 ghost use Rattle.px_nodes.specs.Named.{binary_named};
 ghost use Rattle.px_context.specs.Context.{cell_kind, has_units};
-ghost use Rattle.px_group_nodes.specs.Lane.{has_lane};
+ghost use Rattle.px_group_nodes.specs.Lane.{has_lane, lane_of};
 ghost use Rattle.px_group_nodes.specs.Made.{ArePaired, IsFault, IsRefusal, KeepsGroups, counts_in};
 ghost use Rattle.px_group_nodes.specs.Operator.{IsOperated, operator_answers};
 
@@ -41,7 +41,25 @@ impl Two for Operation {
     }
 }
 
-/// An operator on the cells from which two contexts read.
+/// What an operator makes of the cells from which two contexts read.
+fn operate_read<L: Ledger>(
+    alloc: Global,
+    left: &AggregationContext<'_>,
+    right: &AggregationContext<'_>,
+    op: Operator,
+    kernels: &mut Steps<L>,
+) -> Px<Cell>
+    ensures answer { AnswersBy named_cell result (binary_named op (lane_of left.now) (lane_of right.now)) }
+    ensures most { kernels.new ≤ kernels.old + 1 }
+    ensures rises { kernels.old ≤ kernels.new }
+    ensures ticks { OnOk result (kernels.new ≡ kernels.old + 1) }
+{
+    let x = lane(alloc, left)?;
+    let y = lane(alloc, right)?;
+    binary_cells(alloc, x, y, op, kernels)
+}
+
+/// An operator on the cells from which two contexts read, as a context.
 fn operate_lanes<'a, L: Ledger>(
     alloc: Global,
     left: AggregationContext<'a>,
@@ -63,9 +81,7 @@ fn operate_lanes<'a, L: Ledger>(
     // Each has the rows that its layout wants.
     let _ = has_lane(&left);
     let _ = has_lane(&right);
-    let x = lane(alloc, &left)?;
-    let y = lane(alloc, &right)?;
-    let made = binary_cells(alloc, x, y, op, kernels)?;
+    let made = operate_read(alloc, &left, &right, op, kernels)?;
     Ok(with_lane(untouched_of(left, right), made))
 }
 

@@ -1,7 +1,6 @@
-use Rattle.std.proofs.Common.{◌≡◌, Ok, subst}
+use Rattle.std.proofs.Common.{◌≡◌, Ok}
 use Rattle.std.proofs.lemmas.Result.{err_from_is_err_and}
 use Rattle.px_column.specs.Operator.{operator_kind}
-use Rattle.px_column.specs.Prelude.{Refuses}
 use Rattle.px_frame.specs.CellView.{named_cell}
 use Rattle.px_nodes.specs.Named.{binary_named}
 use Rattle.px_group_nodes.specs.Lane.{lane_of}
@@ -16,7 +15,7 @@ with_lane-requires g c =
     let l = c.args.left in
     let r = c.args.right in
     let op = c.args.op in
-    let made : binary_named op (lane_of l) (lane_of r) ≡ Ok (named_cell c.in_ok-made.made) = cc (c.in_ok-x.ensures, c.in_ok-y.ensures, c.in_ok-made.ensures.answer) in
+    let made : binary_named op (lane_of l) (lane_of r) ≡ Ok (named_cell c.in_ok-made.made) = c.in_ok-made.ensures.answer in
     rw c.untouched_of.ensures (stands_two l r c.requires.paired c.has_lane.ensures.context c.has_lane-2.ensures.context c.requires.left c.requires.right (binary_named op) (operator_kind op) (binary_rows op) (named_cell c.in_ok-made.made) made)
 
 pub returns-clause-made : goal.returns-clause-made
@@ -24,7 +23,7 @@ returns-clause-made g c =
     let l = c.args.left in
     let r = c.args.right in
     let op = c.args.op in
-    let made : binary_named op (lane_of l) (lane_of r) ≡ Ok (named_cell c.in_ok-made.made) = cc (c.in_ok-x.ensures, c.in_ok-y.ensures, c.in_ok-made.ensures.answer) in
+    let made : binary_named op (lane_of l) (lane_of r) ≡ Ok (named_cell c.in_ok-made.made) = c.in_ok-made.ensures.answer in
     rw (c.with_lane.ensures, c.untouched_of.ensures) (made_two l r c.requires.paired c.has_lane.ensures.context c.has_lane-2.ensures.context c.requires.left c.requires.right (binary_named op) (operator_kind op) (binary_rows op) (named_cell c.in_ok-made.made) made c.has_lane.ensures.groups c.has_lane-2.ensures.groups)
 
 pub returns-clause-groups : goal.returns-clause-groups
@@ -36,7 +35,7 @@ returns-clause-lane g c =
     let l = c.args.left in
     let r = c.args.right in
     let op = c.args.op in
-    let made : binary_named op (lane_of l) (lane_of r) ≡ Ok (named_cell c.in_ok-made.made) = cc (c.in_ok-x.ensures, c.in_ok-y.ensures, c.in_ok-made.ensures.answer) in
+    let made : binary_named op (lane_of l) (lane_of r) ≡ Ok (named_cell c.in_ok-made.made) = c.in_ok-made.ensures.answer in
     rw (c.with_lane.ensures, c.untouched_of.ensures) (lane_two l r c.requires.paired c.has_lane.ensures.context c.has_lane-2.ensures.context c.requires.left c.requires.right (binary_named op) (operator_kind op) (binary_rows op) (named_cell c.in_ok-made.made) made)
 
 pub returns-in_err-made-clause-refused : goal.returns-in_err-made-clause-refused
@@ -44,9 +43,6 @@ returns-in_err-made-clause-refused g c =
     let l = c.args.left in
     let r = c.args.right in
     let op = c.args.op in
-    let x : named_cell c.in_ok-x.x ≡ lane_of l = cc c.in_ok-x.ensures in
-    let y : named_cell c.in_ok-y.y ≡ lane_of r = cc c.in_ok-y.ensures in
     let e = c.in_err-made.field-0.0 in
-    let p = err_from_is_err_and c.from_residual-in_err-made.result c.from_residual-in_err-made.ensures.1 in
-    let refused : Refuses e (binary_named op (lane_of l) (lane_of r)) = subst (Refuses e) (λ i. binary_named op (x i) (y i)) c.in_err-made.ensures.answer in
-    rw (p.1, p.2) (lanes_refused l r c.requires.paired c.has_lane.ensures.context c.has_lane-2.ensures.context c.requires.left c.requires.right op e (counts_in (operator_answers op l r)) refused)
+    let p = err_from_is_err_and c.from_residual.result c.from_residual.ensures.1 in
+    rw (p.1, p.2) (lanes_refused l r c.requires.paired c.has_lane.ensures.context c.has_lane-2.ensures.context c.requires.left c.requires.right op e (counts_in (operator_answers op l r)) c.in_err-made.ensures.answer)
