@@ -1,0 +1,4 @@
+pub mod Words
+pub mod Lanes
+pub mod Places
+pub mod Inside
