@@ -1,5 +1,5 @@
 -- One place more of an array that is being built.
-use Rattle.std.proofs.Common.{◌≡◌, ◌≢◌, ℕ, ◌+◌, ◌*◌, ◌^◌, ◌<◌, ◌≤◌, Bool, true, List, [], ◌∷◌, ◌++◌, if◌then◌else◌, Some, None, Result, Ok, Err, OnErr, length, ap, refl, subst, ◌∙◌, arith, pos, slice_index, slice_index_or, slice_get}
+use Rattle.std.proofs.Common.{◌≡◌, ◌≢◌, ℕ, ◌+◌, ◌*◌, ◌^◌, ◌<◌, ◌≤◌, Bool, true, List, [], ◌∷◌, ◌++◌, if◌then◌else◌, Some, None, Result, Ok, Err, OnErr, length, ap, refl, ◌∙◌, arith, pos, slice_index, slice_index_or, slice_get}
 use Rattle.std.specs.Option.{option_map}
 use Rattle.std.proofs.lemmas.List.FromFn.{length-map-range_with_len, map-range_with_len_more}
 use Rattle.px_value.proofs.FitLaws.{all_push}
@@ -7,7 +7,7 @@ use Rattle.px_value.specs.Datum.{Slot, boolean, integer, text, bytes, list, slot
 use Rattle.px_value.specs.Kind.{Kind, slot_fits, slots_fit}
 use Rattle.px_array.specs.Words.{word_bit}
 use Rattle.px_array.specs.Lanes.{Holds, IsFor, lane_slot}
-use Rattle.px_array.specs.Inside.{Covers, IsBuilt, IsInside, inner_slot, stored}
+use Rattle.px_array.specs.Inside.{IsBuilt, stored}
 use Rattle.px_array.specs.declared.lanes.Lanes.{Lanes}
 use Rattle.px_array.specs.declared.lanes.Lanes.TheVariants.{Ints, UInts, Bools, Texts, Bytes, Lists, Nulls}
 use Rattle.px_array.proofs.Windows.{same_below}

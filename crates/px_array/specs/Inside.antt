@@ -9,7 +9,6 @@ use Rattle.px_array.specs.Lanes.{Holds, IsFor, IsWords, lane_slot}
 use Rattle.px_array.specs.declared.array.Inner.{Inner}
 use Rattle.px_array.specs.declared.array.Inner.TheVariants.{Shared, Constant, SameList}
 use Rattle.px_array.specs.declared.lanes.Lanes.{Lanes}
-use Rattle.px_array.specs.declared.lanes.Store.{Store}
 
 -- n values, with the bits of their validity
 pub record IsStored (f : Lanes) (ws : List ℕ) (n : ℕ) : Type 0 where

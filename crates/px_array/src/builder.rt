@@ -69,7 +69,13 @@ impl ArrayBuilder {
         let present = slot.is_some();
         let row = self.store.len as usize;
         make_room(&mut self.store.valid, row)?;
-        add(self.alloc, &mut self.store.lanes, &self.dtype, self.store.len, slot)?;
+        add(
+            self.alloc,
+            &mut self.store.lanes,
+            &self.dtype,
+            self.store.len,
+            slot,
+        )?;
         put_bit(&mut self.store.valid, row, present);
         self.store.len += 1;
         Ok(())
@@ -86,7 +92,13 @@ impl ArrayBuilder {
         let present = slot.is_some();
         let row = self.store.len as usize;
         make_room(&mut self.store.valid, row)?;
-        add_ref(self.alloc, &mut self.store.lanes, &self.dtype, self.store.len, slot)?;
+        add_ref(
+            self.alloc,
+            &mut self.store.lanes,
+            &self.dtype,
+            self.store.len,
+            slot,
+        )?;
         put_bit(&mut self.store.valid, row, present);
         self.store.len += 1;
         Ok(())

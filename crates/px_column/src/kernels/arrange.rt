@@ -80,20 +80,6 @@ impl Column {
         }
     }
 
-    /// The rows from the first one on, so many.
-    #[tactic(auto, using(crate::proofs::Placing::window_more, crate::proofs::Placing::window_all))]
-    fn window(&self, alloc: Global, first: u32, count: u32) -> Px<Column>
-        requires there { first + count ≤ length self.now.slots }
-        requires short { first + count < 2 ^ 32 }
-        ensures { Answers result (Ok (with_rows self.now (take count (drop first self.now.slots)))) }
-    {
-        let mut rows = self.builder(alloc, count)?;
-        for row in 0..count {
-            rows.push_ref(self.get(first + row))?;
-        }
-        rows.finish()
-    }
-
     /// The rows from an offset on, so many: a negative offset counts from the end, no length is no
     /// limit, and rows that are not there are left out (polars `slice`). The offset is from -2^64 to
     /// 2^64, the length from 0 to 2^64.
