@@ -7,6 +7,9 @@ use Rattle.px_value.specs.Datum.{Slot}
 use Rattle.px_value.specs.Kind.{Kind, slot_fits, slots_fit}
 use Rattle.px_value.specs.Series.{slot_at}
 use Rattle.px_array.specs.Inside.{Covers, IsBuilt, IsInside, IsStored, inner_slot, stored, window}
+use Rattle.px_array.specs.Integers.{HasNumbers}
+use Rattle.px_array.specs.declared.integers.Numbers.{Numbers}
+use Rattle.px_array.specs.declared.integers.Numbers.TheVariants.{Signed, Unsigned}
 use Rattle.px_array.specs.Lanes.{Holds, Reaches, lane_slot}
 use Rattle.px_array.specs.declared.array.Inner.{Inner}
 use Rattle.px_array.specs.declared.array.Inner.TheVariants.{Shared, Constant, SameList}
@@ -140,3 +143,8 @@ same_inside k x s n h c fits short = record {
     short = omega (arith, short, length-map-range_with_len (inner_slot x) 0 n);
   };
 }
+
+-- fewer numbers are there too
+pub numbers_less : (v : Numbers) (m n : ℕ) → m ≤ n → HasNumbers v n → HasNumbers v m
+numbers_less (Signed vs) m n h c = omega (arith, h, c)
+numbers_less (Unsigned vs) m n h c = omega (arith, h, c)

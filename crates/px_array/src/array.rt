@@ -67,9 +67,9 @@ fn same_for_all(alloc: Global, slot: Option<Value>) -> Px<Inner>
 #[derive(Drop)]
 pub struct Array {
     dtype: DataType,
-    inner: Inner,
-    first: u32,
-    len: u32,
+    pub(crate) inner: Inner,
+    pub(crate) first: u32,
+    pub(crate) len: u32,
 }
 
 impl Model for Array {

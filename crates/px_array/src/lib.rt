@@ -4,10 +4,12 @@
 mod array;
 mod builder;
 mod filling;
+mod integers;
 mod lanes;
 mod rows;
 mod words;
 
 pub use array::Array;
 pub use builder::ArrayBuilder;
+pub use integers::Integers;
 pub use rows::Rows;

@@ -16,3 +16,4 @@ pub mod Between
 pub mod Exploding
 pub mod Sorting
 pub mod Casting
+pub mod Summing

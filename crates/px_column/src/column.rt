@@ -121,8 +121,8 @@ impl Column {
         self.array.rows()
     }
 
-    /// So many rows from an offset on, which share the values.
-    pub(crate) fn window(&self, alloc: Global, offset: u32, count: u32) -> Px<Column>
+    /// So many rows from an offset on, all of which are there; they share the values.
+    pub fn window(&self, alloc: Global, offset: u32, count: u32) -> Px<Column>
         requires { offset + count ≤ length self.now.slots }
         ensures { Answers result (Ok (record self.now { slots = take count (drop offset self.now.slots) })) }
     {

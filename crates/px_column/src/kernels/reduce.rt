@@ -8,7 +8,7 @@ ghost use Rattle.px_value.specs.View.{slot_of};
 
 use crate::builder::ColumnBuilder;
 use crate::column::Column;
-use px_operation::{ImplodeReduce, MaxReduce, MinReduce, Reduce, SumReduce, reduced_type};
+use px_operation::{ImplodeReduce, MaxReduce, MinReduce, Reduce, reduced_type};
 use px_value::{DataType, GroupByMethod, Px, Steps, Value, copy_slot};
 use std::alloc::Global;
 use std::sync::ledger::Ledger;
@@ -56,7 +56,7 @@ impl Column {
     }
 
     /// The reduction of all rows.
-    fn reduce_by<R: Reduce + Drop>(&self, alloc: Global) -> Px<Option<Value>>
+    pub(crate) fn reduce_by<R: Reduce + Drop>(&self, alloc: Global) -> Px<Option<Value>>
         requires { is_taken R.method self.now.kind ≡ true }
         ensures { AnswersBy slot_of result (Ok (reduced_slot R.method self.now.kind self.now.slots)) }
     {
@@ -72,7 +72,7 @@ impl Column {
         match method {
             GroupByMethod::Min => self.reduce_by::<MinReduce>(alloc),
             GroupByMethod::Max => self.reduce_by::<MaxReduce>(alloc),
-            GroupByMethod::Sum => self.reduce_by::<SumReduce>(alloc),
+            GroupByMethod::Sum => self.sum_rows(alloc),
             GroupByMethod::First => copy_slot(alloc, self.get_or_null(0)),
             GroupByMethod::Last => copy_slot(alloc, self.get_or_null(self.len().saturating_sub(1))),
             GroupByMethod::NUnique => Ok(count(self.distinct_count(alloc)?)),
