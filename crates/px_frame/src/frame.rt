@@ -156,7 +156,10 @@ impl DataFrame {
         ensures { Answers result (Ok (subframe self.now (range_with_len offset length))) }
     {
         let height = self.height();
-        DataFrame::new(alloc, slice_columns(alloc, &self.columns, height, offset, length)?)
+        DataFrame::new(
+            alloc,
+            slice_columns(alloc, &self.columns, height, offset, length)?,
+        )
     }
 
     /// The rows whose mask is true; a null in the mask keeps no row (polars `filter`, which repeats a
@@ -239,13 +242,7 @@ fn filter_columns(alloc: Global, columns: &[Column], mask: &Column) -> Px<Vec<Co
 
 /// So many rows of a column of this height from an offset on, which share its values.
 #[tactic(auto, using(crate::proofs::Each::has_height_is, crate::proofs::Ranges::range_slots))]
-fn slice_column(
-    alloc: Global,
-    column: &Column,
-    height: u32,
-    offset: u32,
-    count: u32,
-) -> Px<Column>
+fn slice_column(alloc: Global, column: &Column, height: u32, offset: u32, count: u32) -> Px<Column>
     requires height { has_height height column.now ≡ true }
     requires within { offset + count ≤ height }
     ensures { Answers result (Ok (series_at (range_with_len offset count) column.now)) }
