@@ -25,6 +25,7 @@ pub(crate) enum Inner {
 }
 
 /// What stands at a place.
+#[inline(always)]
 pub(crate) fn lent(inner: &Inner, i: usize) -> Option<ValueRef<'_>>
     requires { Covers inner.now (i + 1) }
     ensures { slot_of_ref result ≡ inner_slot inner.now i }
@@ -113,6 +114,7 @@ impl Array {
     }
 
     /// The number of places.
+    #[inline(always)]
     pub fn len(&self) -> u32
         ensures { result ≡ length self.now.slots }
     {
@@ -127,6 +129,7 @@ impl Array {
     }
 
     /// The value at a place, `None` where it is a null.
+    #[inline(always)]
     pub fn get(&self, index: u32) -> Option<ValueRef<'_>>
         requires { index < length self.now.slots }
         ensures value { slot_of_ref result ≡ slot_at self.now.slots index }

@@ -82,6 +82,7 @@ impl ArrayBuilder {
     }
 
     /// One place more, copied, under the conditions of `push`.
+    #[inline(always)]
     pub fn push_ref(&mut self, slot: Option<ValueRef<'_>>) -> Px<()>
         requires fits { slot_fits self.old.kind (slot_of_ref slot) ≡ true }
         requires room { length self.old.slots + 1 < 2 ^ 32 }

@@ -29,8 +29,8 @@ fn add_truth(words: &mut Vec<u64>, len: u32, set: bool) -> Px<()>
     Ok(())
 }
 
-/// One value more, copied: that of a place, or any where it is a null.
-pub(crate) fn add_ref(
+/// One value more of any type, copied: that of a place, or any where it is a null.
+fn add_copy(
     alloc: Global,
     lanes: &mut Lanes,
     dtype: &DataType,
@@ -54,6 +54,32 @@ pub(crate) fn add_ref(
         Lanes::Bytes(v) => v.push(bytes_of(alloc, slot)?)?,
         Lanes::Lists(v) => v.push(list_of(alloc, dtype, slot)?)?,
         Lanes::Nulls => {}
+    }
+    Ok(())
+}
+
+/// One value more, copied: that of a place, or any where it is a null. Integers take no further call.
+#[inline(always)]
+pub(crate) fn add_ref(
+    alloc: Global,
+    lanes: &mut Lanes,
+    dtype: &DataType,
+    len: u32,
+    slot: Option<ValueRef<'_>>,
+) -> Px<()>
+    requires for_kind { IsFor (kind_of dtype.now) lanes.old }
+    requires holds { Holds lanes.old len }
+    requires fits { slot_fits (kind_of dtype.now) (slot_of_ref slot) ≡ true }
+    ensures answer { Answers result (Ok tt) }
+    ensures for_kind { IsFor (kind_of dtype.now) lanes.new }
+    ensures holds { Holds lanes.new (if is_ok result then len + 1 else len) }
+    ensures same { (ws : List ℕ) (i : ℕ) → i < len → lane_slot lanes.new ws i ≡ lane_slot lanes.old ws i }
+    ensures here { OnOk result ((ws : List ℕ) → word_bit ws len ≡ is_some slot.entry → lane_slot lanes.new ws len ≡ slot_of_ref slot.entry) }
+{
+    match lanes {
+        Lanes::Ints(v) => v.push(signed(dtype, slot))?,
+        Lanes::UInts(v) => v.push(unsigned(dtype, slot))?,
+        _ => add_copy(alloc, lanes, dtype, len, slot)?,
     }
     Ok(())
 }
@@ -94,6 +120,7 @@ fn into_list(alloc: Global, dtype: &DataType, slot: Option<Value>) -> Values
 }
 
 /// One value more: that of a place, or any where it is a null.
+#[inline(always)]
 pub(crate) fn add(
     alloc: Global,
     lanes: &mut Lanes,
@@ -120,6 +147,7 @@ pub(crate) fn add(
 }
 
 /// What stands at a place.
+#[inline(always)]
 pub(crate) fn lane_at<'a>(lanes: &'a Lanes, valid: &[u64], i: usize) -> Option<ValueRef<'a>>
     requires values { Reaches lanes.now (i + 1) }
     requires valid { i < 64 * length valid.now }

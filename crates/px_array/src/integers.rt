@@ -43,6 +43,7 @@ impl<'a> Model for Integers<'a> {
 }
 
 /// The number at a place, `None` where its bit is not set.
+#[inline(always)]
 fn number_at(numbers: Numbers<'_>, valid: &[u64], i: usize) -> Option<i128>
     requires numbers { HasNumbers numbers (i + 1) }
     requires valid { i < 64 * length valid.now }
@@ -67,6 +68,7 @@ impl<'a> Integers<'a> {
     }
 
     /// The integer at a place, `None` where it is missing.
+    #[inline(always)]
     pub fn get(&self, index: u32) -> Option<i128>
         requires { index < length self.now }
         ensures value { option_map integer result ≡ slot_at self.now index }

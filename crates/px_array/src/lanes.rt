@@ -56,6 +56,7 @@ pub(crate) fn no_values(alloc: Global, dtype: &DataType, capacity: u32) -> Px<La
 }
 
 /// The signed number of a place, 0 where it is a null.
+#[inline(always)]
 pub(crate) fn signed(dtype: &DataType, slot: Option<ValueRef<'_>>) -> i64
     requires kind { IsSigned (kind_of dtype.now) }
     requires fits { slot_fits (kind_of dtype.now) (slot_of_ref slot) ≡ true }
@@ -68,6 +69,7 @@ pub(crate) fn signed(dtype: &DataType, slot: Option<ValueRef<'_>>) -> i64
 }
 
 /// The unsigned number of a place, 0 where it is a null.
+#[inline(always)]
 pub(crate) fn unsigned(dtype: &DataType, slot: Option<ValueRef<'_>>) -> u64
     requires kind { IsUnsigned (kind_of dtype.now) }
     requires fits { slot_fits (kind_of dtype.now) (slot_of_ref slot) ≡ true }
@@ -80,6 +82,7 @@ pub(crate) fn unsigned(dtype: &DataType, slot: Option<ValueRef<'_>>) -> u64
 }
 
 /// The truth of a place, false where it is a null.
+#[inline(always)]
 pub(crate) fn truth(slot: Option<ValueRef<'_>>) -> bool
     requires { slot_fits booleans (slot_of_ref slot) ≡ true }
     ensures { IsNullOr (slot_of_ref slot.entry) (boolean result) }

@@ -50,6 +50,7 @@ impl<'a> Iterator for Rows<'a> {
 
     ghost remaining = { item_count (λ s. s) };
 
+    #[inline(always)]
     fn next(&mut self) -> Option<Option<ValueRef<'a>>> {
         if self.next < self.array.len() {
             let row = self.array.get(self.next);

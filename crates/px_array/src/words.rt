@@ -6,6 +6,7 @@ ghost use Rattle.px_value.specs.Answer.{Answers};
 use px_value::Px;
 
 /// Whether the bit of a place is set.
+#[inline(always)]
 pub(crate) fn bit(words: &[u64], i: usize) -> bool
     requires { i < 64 * length words.now }
     ensures { result ≡ word_bit words.now i }
@@ -14,6 +15,7 @@ pub(crate) fn bit(words: &[u64], i: usize) -> bool
 }
 
 /// Sets the bit of a place.
+#[inline(always)]
 pub(crate) fn set_bit(words: &mut [u64], i: usize)
     requires { i < 64 * length words.old }
     ensures here { word_bit words.new i ≡ true }
@@ -23,6 +25,7 @@ pub(crate) fn set_bit(words: &mut [u64], i: usize)
 }
 
 /// A word more, with no bit set, where the place has none.
+#[inline(always)]
 pub(crate) fn make_room(words: &mut Vec<u64>, i: usize) -> Px<()>
     requires { i ≤ 64 * vec_len words.old }
     ensures answer { Answers result (Ok tt) }
@@ -37,6 +40,7 @@ pub(crate) fn make_room(words: &mut Vec<u64>, i: usize) -> Px<()>
 }
 
 /// Gives a place, whose bit is not set, this truth.
+#[inline(always)]
 pub(crate) fn put_bit(words: &mut Vec<u64>, i: usize, set: bool)
     requires within { i < 64 * vec_len words.old }
     requires clear { word_bit words.old.items i ≡ false }

@@ -76,6 +76,7 @@ impl Column {
     }
 
     /// The number of rows.
+    #[inline(always)]
     pub fn len(&self) -> u32
         ensures { result ≡ length self.now.slots }
     {
@@ -104,6 +105,7 @@ impl Column {
     }
 
     /// The value at a row, `None` where it is a null (polars `get`).
+    #[inline(always)]
     pub fn get(&self, index: u32) -> Option<ValueRef<'_>>
         requires { index < length self.now.slots }
         ensures value { slot_of_ref result ≡ slot_at self.now.slots index }
