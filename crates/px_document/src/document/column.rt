@@ -1,10 +1,10 @@
 //! Reading columns.
-ghost use Rattle.std.specs.Prelude.{◌≡◌, ◌<◌, ◌^◌, IfOk, length, map, option_map, true};
+ghost use Rattle.std.specs.Prelude.{◌≡◌, ◌<◌, ◌^◌, IfOk, length, map, option_and_then, option_map, true};
 ghost use Rattle.serde_json.specs.View.{view};
 ghost use Rattle.px_column.specs.Prelude.{kind_of, slot_fits, slot_of};
 ghost use Rattle.px_document.specs.Document.{column_of, column_with, fitting_place, place_of, rows_under};
 ghost use Rattle.px_document.specs.Form.{Reads, ReadsBy};
-ghost use Rattle.px_column.specs.Option.{◌>>=◌, each};
+ghost use Rattle.px_column.specs.Option.{each};
 
 use crate::document::fault::DocumentFault;
 use crate::document::fields::{items, read_text, three_fields};
@@ -56,7 +56,7 @@ fn read_rows(
     dtype: &DataType,
     values: &[Value],
 ) -> Result<Column, DocumentFault>
-    ensures { Reads result (each (place_of (kind_of dtype.now)) (map view values.now) >>= column_with name (kind_of dtype.now)) }
+    ensures { Reads result (option_and_then (column_with name (kind_of dtype.now)) (each (place_of (kind_of dtype.now)) (map view values.now))) }
 {
     if values.len() >= 1 << 32 {
         return Err(DocumentFault::BadDocument);
