@@ -1,5 +1,5 @@
 //! An array over shared values of one type.
-ghost use Rattle.std.specs.Prelude.{◌≡◌, ◌+◌, ◌<◌, ◌≤◌, ◌^◌, ◌==◌, ℕ, Ok, IfOk, length, drop, take, replicate, true, false, is_ok};
+ghost use Rattle.std.specs.Prelude.{◌≡◌, ◌+◌, ◌<◌, ◌≤◌, ◌^◌, ℕ, Ok, IfOk, length, drop, take, replicate, true, false, is_ok};
 ghost use Rattle.px_array.specs.Inside.{Covers, IsInside, inner_slot, window};
 ghost use Rattle.px_value.specs.Answer.{Answers, AnswersBy};
 ghost use Rattle.px_value.specs.Kind.{Kind, is_list_kind, slot_fits, slots_fit};

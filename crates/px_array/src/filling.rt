@@ -1,5 +1,5 @@
 //! One value more, or what stands at a place.
-ghost use Rattle.std.specs.Prelude.{◌≡◌, ◌+◌, ◌*◌, ◌<◌, ◌≤◌, ℕ, List, Ok, IfOk, OnOk, length, true, is_ok, is_some, if◌then◌else◌};
+ghost use Rattle.std.specs.Prelude.{◌≡◌, ◌+◌, ◌*◌, ◌<◌, ℕ, List, Ok, IfOk, OnOk, length, true, is_ok, is_some, if◌then◌else◌};
 ghost use Rattle.px_array.specs.Lanes.{Holds, IsFor, IsNullOr, IsWords, Reaches, lane_slot};
 ghost use Rattle.px_array.specs.Words.{word_bit};
 ghost use Rattle.px_value.specs.Answer.{Answers, AnswersBy};

@@ -1,16 +1,13 @@
 //! Values of one type, one after the other.
-ghost use Rattle.std.specs.Prelude.{◌≡◌, ◌+◌, ◌*◌, ◌<◌, ℕ, List, Ok, OnOk, IfOk, pos, true, is_ok, is_some, if◌then◌else◌};
-ghost use Rattle.px_array.specs.Lanes.{Holds, IsFor, IsNullOr, IsSigned, IsUnsigned, lane_slot};
-ghost use Rattle.px_array.specs.Words.{word_bit};
-ghost use Rattle.px_value.specs.Answer.{Answers, AnswersBy};
+ghost use Rattle.std.specs.Prelude.{◌≡◌, Ok, IfOk, pos, true};
+ghost use Rattle.px_array.specs.Lanes.{Holds, IsFor, IsNullOr, IsSigned, IsUnsigned};
+ghost use Rattle.px_value.specs.Answer.{AnswersBy};
 ghost use Rattle.px_value.specs.Datum.{slots, boolean, integer, text, bytes, list};
 ghost use Rattle.px_value.specs.Kind.{binaries, booleans, is_list_kind, slot_fits, strings};
 ghost use Rattle.px_value.specs.KindView.{kind_of};
 ghost use Rattle.px_value.specs.LentView.{slot_of_ref};
-ghost use Rattle.px_value.specs.View.{slot_of};
 
-use crate::words::{make_room, set_bit};
-use px_value::{ByteString, DataType, Name, Px, Value, ValueRef, Values, lend};
+use px_value::{ByteString, DataType, Name, Px, ValueRef, Values};
 use std::alloc::Global;
 
 /// Values of one type, one for each place; any where the place is a null.

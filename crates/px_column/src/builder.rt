@@ -1,6 +1,6 @@
 //! Columns built row by row.
 ghost use Rattle.std.specs.Prelude.{◌≡◌, ◌+◌, ◌<◌, ◌^◌, ◌∷◌, ◌++◌, [], Ok, OnOk, OnErr, length, true};
-ghost use Rattle.px_value.specs.Answer.{Answers, AnswersBy};
+ghost use Rattle.px_value.specs.Answer.{Answers};
 ghost use Rattle.px_value.specs.Kind.{slot_fits};
 ghost use Rattle.px_value.specs.KindView.{kind_of};
 ghost use Rattle.px_value.specs.LentView.{slot_of_ref};

@@ -1,10 +1,10 @@
 //! The rows of a column in other places: slices, the reverse order, shifts, and one column after another.
-ghost use Rattle.std.specs.Prelude.{◌≡◌, ◌+◌, ◌<◌, ◌≤◌, ◌^◌, ◌++◌, pos, ◌-ℤ◌, Ok, OnOk, OnErr, length, drop, take, true};
+ghost use Rattle.std.specs.Prelude.{◌≡◌, ◌+◌, ◌<◌, ◌≤◌, ◌^◌, pos, ◌-ℤ◌, Ok, OnErr, length, true};
 ghost use Rattle.px_value.specs.Answer.{Answers, AnswersBy};
 ghost use Rattle.px_value.specs.Kind.{slot_fits};
 ghost use Rattle.px_value.specs.LentView.{slot_of_ref};
 ghost use Rattle.px_operation.specs.Function.{clamped, slice_start, slice_stop, slice_window, slot_from};
-ghost use Rattle.px_column.specs.Rows.{joined_column, reverse_column, shift_column, slice_column, with_rows};
+ghost use Rattle.px_column.specs.Rows.{joined_column, reverse_column, shift_column, slice_column};
 ghost use Rattle.px_column.specs.Window.{IsLimit, IsOffset};
 
 use crate::builder::ColumnBuilder;
