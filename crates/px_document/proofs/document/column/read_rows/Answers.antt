@@ -1,4 +1,4 @@
-use Rattle.std.proofs.Common.{◌≡◌, ◌∙◌, ◌<◌, ◌≤◌, ◌^◌, Option, arith, length, map, subst, sym}
+use Rattle.std.proofs.Common.{◌<◌, ◌^◌, Option, arith, length, map, subst, sym}
 use Rattle.std.proofs.lemmas.List.{length-map}
 use Rattle.serde_json.specs.View.{view}
 use Rattle.px_column.specs.Prelude.{Series, kind_of}
