@@ -15,5 +15,6 @@ pub mod Placing
 pub mod Between
 pub mod Exploding
 pub mod Sorting
+pub mod Ranking
 pub mod Casting
 pub mod Summing

@@ -11,6 +11,7 @@ pub mod Exploded
 pub mod Member
 pub mod Retyped
 pub mod Sorted
+pub mod Ranked
 pub use Rattle.px_value.specs.Option
 pub use Rattle.px_value.specs.Result
 pub use Rattle.px_value.specs.Datum

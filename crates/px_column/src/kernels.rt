@@ -9,6 +9,7 @@ mod interval;
 mod keep;
 mod membership;
 mod operate;
+mod ranked;
 mod reduce;
 mod sort;
 mod sort_key;
