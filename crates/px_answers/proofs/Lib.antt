@@ -1,10 +1,8 @@
 pub mod Applied
-pub mod Beside
 pub mod Cells
 pub mod Columns
 pub mod Costs
 pub mod Counts
-pub mod Groupings
 pub mod InputLists
 pub mod Inputs
 pub mod Literals
@@ -14,7 +12,5 @@ pub mod Partitioned
 pub mod Plain
 pub mod Ranges
 pub mod Reductions
-pub mod Refusals
-pub mod Scopes
 pub mod Selections
 pub mod SortedBy

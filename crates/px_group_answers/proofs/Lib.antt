@@ -1,5 +1,4 @@
 pub mod Above
-pub mod Columns
 pub mod ContextsInOrder
 pub mod GroupCounts
 pub mod Leaves
@@ -11,4 +10,3 @@ pub mod Reductions
 pub mod Refusing
 pub mod Selections
 pub mod Values
-pub mod Windows

@@ -1,5 +1,3 @@
-pub mod Found
-pub mod Misfits
 pub mod Named
 pub mod Selected
 pub mod Members
@@ -15,4 +13,3 @@ pub mod Command
 pub mod Aggregated
 pub mod Nodes
 pub mod Kernels
-pub mod Fields

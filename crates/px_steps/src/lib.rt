@@ -8,7 +8,6 @@ mod planning;
 mod reply;
 pub mod run;
 mod runner;
-mod scope;
 mod select_step;
 mod status;
 
@@ -17,6 +16,6 @@ pub use px_ends::{
     LIMIT, MemorySink, MemorySource, Sink, SinkFailed, Source, SourceFailed, StdinSource,
     StdoutSink,
 };
-pub use px_tree::{Step, are_unchunked};
+pub use px_tree::{Step, are_built};
 pub use runner::run_steps;
 pub use status::Status;

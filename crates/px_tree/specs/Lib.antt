@@ -12,4 +12,4 @@ pub mod Partition
 pub mod Cost
 pub mod TreeCode
 pub mod Step
-pub mod Chunks
+pub mod Built
