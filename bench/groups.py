@@ -4,13 +4,12 @@
 groups.py PX [ROWS] ; PX is the path of the executable. Seconds are wall seconds of a whole run, each the best of three; a peer prints a line for each group.
 """
 
-import json
 import os
 import shutil
-import subprocess
 import sys
 import tempfile
-import time
+
+from runs import measure, python_with_pandas, seconds, write
 
 HERE = os.path.dirname(os.path.abspath(__file__))
 A, B = {"col": "a"}, {"col": "b"}
@@ -64,39 +63,14 @@ def many(rows, width):
     return columns, [step]
 
 
-def write(file, columns, steps):
-    listed = [{"name": it, "type": "Int64", "values": columns[it]} for it in columns]
-    json.dump({"columns": listed, "steps": steps}, file, separators=(",", ":"))
-    file.flush()
-
-
-def seconds(command, path):
-    best = None
-    for _ in range(3):
-        with open(path) as source:
-            start = time.perf_counter()
-            subprocess.run(command, stdin=source, stdout=subprocess.DEVNULL, check=True)
-            taken = time.perf_counter() - start
-        best = taken if best is None else min(best, taken)
-    return best
-
-
 def peers(step):
-    for python in ("python3", "/usr/bin/python3"):
-        has = subprocess.run([python, "-c", "import pandas"], stderr=subprocess.DEVNULL)
-        if has.returncode == 0:
-            yield "pandas", [python, f"{HERE}/peers/groups.py", step]
-            break
+    python = python_with_pandas()
+    if python:
+        yield "pandas", [python, f"{HERE}/peers/groups.py", step]
     if shutil.which("sqlite3"):
         yield "sqlite3", ["sqlite3", ":memory:", f".read {HERE}/peers/groups_{step}.sql"]
     if shutil.which("Rscript"):
         yield "data.table", ["Rscript", f"{HERE}/peers/groups.R", step]
-
-
-def measure(px, made):
-    with tempfile.NamedTemporaryFile("w") as file:
-        write(file, *made)
-        return seconds([px, "run"], file.name)
 
 
 def main(px, rows="1000000"):

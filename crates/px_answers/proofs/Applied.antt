@@ -31,7 +31,7 @@ use Rattle.px_answers.specs.Parts.{PlannedApply, apply_plan, plan_trees}
 use Rattle.px_answers.specs.Planned.{Planned}
 use Rattle.px_answers.specs.Value.{AreCellsOf, IsCause, IsCauseOfAny, IsCellOf, IsOneOf, IsValue, causes_on}
 use Rattle.px_answers.proofs.Cells.{cell_is_value}
-use Rattle.px_answers.proofs.Inputs.{IsAnswer, IsNode, all_faults_apart, all_leaves_apart, all_refusals_apart}
+use Rattle.px_answers.proofs.Inputs.{IsAnswer, IsNode, all_faults_apart, all_refusals_apart}
 use Rattle.px_answers.proofs.Plain.{is_plain}
 use Rattle.px_answers.proofs.InputLists.{AreAsMany, AreInputs, among_right, are_unit_cells, cause_of_inputs, inputs_of, is_unit_first_cell}
 
@@ -364,7 +364,6 @@ pub apply_node : (a : PlannedApply) (f : Frame) → IsNode (apply_plan a) a.inpu
 apply_node a f = record {
   refusals = λ place. ap (λ rs. or_first rs (own_refusals (apply_plan a).tree (scope_of f) place)) (all_refusals_apart (scope_of f) place a.inputs);
   columns = refl;
-  leaves = all_leaves_apart a.inputs;
   faults = ap (λ es. es ++ fault_in (outcome_on (apply_plan a).tree f)) (all_faults_apart f a.inputs);
   sizes = λ fs. omega arith;
 }
@@ -372,5 +371,5 @@ apply_node a f = record {
 -- an input's cause is the function's
 pub apply_input_cause : (e : PxError) (a : PlannedApply) (f : Frame) → IsCauseOfAny e a.inputs f → IsCause e (apply_plan a) f
 apply_input_cause e a f h =
-    cause_of_inputs e a.inputs (apply_plan a) f (own_refusals (apply_plan a).tree (scope_of f) Default) (fault_in (outcome_on (apply_plan a).tree f)) refl refl refl refl
+    cause_of_inputs e a.inputs (apply_plan a) f (own_refusals (apply_plan a).tree (scope_of f) Default) (fault_in (outcome_on (apply_plan a).tree f)) refl refl refl
     (λ (b : 2 ^ 32 ≤ sizes_on (plan_trees a.inputs) (f ∷ [])). omega (arith, b)) h

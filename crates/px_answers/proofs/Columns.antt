@@ -1,22 +1,25 @@
 -- What a column node finds, and what its column is.
-use Rattle.std.proofs.Common.{◌≡◌, ◌==◌, ℕ, zero, suc, Bool, true, false, cond, ◌&&◌, ◌||◌, List, [], ◌∷◌, ◌++◌, Option, Some, None, Ok, Err, Result, Bor, IfSome, IfOk, inl, drop, length, map, option_map, is_none, refl, sym, ◌∙◌, ap, arith}
+use Rattle.std.proofs.Common.{◌≡◌, ◌==◌, ℕ, zero, suc, Bool, true, false, cond, ◌&&◌, ◌||◌, List, [], ◌∷◌, ◌++◌, Option, Some, None, Ok, Err, Result, Bor, IfSome, inl, drop, length, option_map, is_none, refl, sym, ◌∙◌, ap, arith}
 use Rattle.std.specs.List.{find, list_any, flat_map}
+use Rattle.std.specs.Option.{option_or}
 use Rattle.std.proofs.lemmas.Bool.Decides.{nat_tests}
-use Rattle.px_column.specs.Prelude.{Series, Answers, AnswersBy, Kind}
-use Rattle.px_frame.specs.External.{alone}
+use Rattle.px_column.specs.Prelude.{Series, AnswersBy, Kind}
+use Rattle.px_frame.specs.External.{Frame, look_in, scope_of}
 use Rattle.px_frame.specs.Frame.{height_of, look, name_eq, names_of, first_repeat, IsFrame}
-use Rattle.px_frame.specs.Schema.{FieldKind, column_field, has_field_name}
+use Rattle.px_frame.specs.Schema.{FieldKind, has_field_name}
 use Rattle.px_tree.specs.Tree.{column}
 use Rattle.px_frame.specs.SchemaView.{field_kind}
 use Rattle.px_frame.specs.declared.schema.Field.{Field}
 use Rattle.px_value.specs.declared.error.PxError.{PxError}
 use Rattle.px_value.specs.declared.error.PxError.TheVariants.{ColumnNotFound, ShapeMismatch}
-use Rattle.px_tree.specs.Typing.{kind_of_name, refused_where}
-use Rattle.px_tree.specs.Value.{has_misfit}
+use Rattle.px_tree.specs.Typing.{kind_of_name, refusals_of, refused_where}
+use Rattle.px_tree.specs.declared.context.Context.TheVariants.{Default}
 use Rattle.px_answers.specs.Planned.{Planned, PlannedColumn, found_by}
 use Rattle.px_answers.specs.Live.{field_on}
-use Rattle.px_answers.specs.Value.{IsValue, IsOneOf, causes_on, unfound_refusal}
-use Rattle.px_frame.proofs.LookLaws.{field_look, names_same}
+use Rattle.px_answers.specs.Value.{IsValue, IsOneOf, causes_on, finds_misfit, has_misfit_column, unfound_refusal}
+use Rattle.px_answers.proofs.Inputs.{one_left, one_right}
+use Rattle.px_answers.proofs.Scopes.{kind_of_found}
+use Rattle.px_frame.proofs.LookLaws.{names_same}
 use Rattle.px_frame.proofs.Looking.{looked_height}
 
 -- a name passes its own test
@@ -92,26 +95,45 @@ found_behind n (suc places) seen (t ∷ columns) s d h = by (list_any (name_eq t
 pub looked_behind : (n : List ℕ) (places : ℕ) (columns : List Series) (s : Series) → first_repeat [] (names_of columns) ≡ None → look n (drop places columns) ≡ Some s → look n columns ≡ Some s
 looked_behind n places columns s d h = found_behind n places [] columns s d h
 
--- the column that a node finds is its value
-pub found_is_value : (c : PlannedColumn) (columns : List Series) (s : Series) → found_by c (alone columns) ≡ Some s → look c.name columns ≡ Some s → IsValue (record { tree = column c.name; columns = c ∷ [] }) (alone columns) s
-found_is_value c columns s f l = record {
-  sound = rw (kind, f, l) refl;
-  name = sym (column_named c.name columns s l);
+-- the node of a column
+abbrev pub column_plan : PlannedColumn → Planned
+column_plan c = record { tree = column c.name; columns = c ∷ [] }
+
+-- the name of a column that is found in a frame or beside it
+pub found_named : (n : List ℕ) (frame : Frame) (s : Series) → look_in n frame ≡ Some s → n ≡ s.name
+found_named n frame s h = by (look n frame.columns) refl h
+  where
+    by : (o : Option Series) → look n frame.columns ≡ o → option_or o (look n frame.external) ≡ Some s → n ≡ s.name
+    by (Some t) e g = column_named n frame.columns s (e ∙ g)
+    by None e g = column_named n frame.external s g
+
+-- the column that a node finds, of the frame's height, is its value
+pub found_is_value : (c : PlannedColumn) (frame : Frame) (s : Series) → finds_misfit frame c ≡ false → found_by c frame ≡ Some s → look_in c.name frame ≡ Some s → IsValue (column_plan c) frame s
+found_is_value c frame s m f l = record {
+  sound = rw (kind, f, m) refl;
+  name = sym (found_named c.name frame s l);
   kind = kind;
   value = rw l refl;
   unit = λ h. absurd (cc h);
 }
   where
-    kind : kind_of_name c.name (map column_field columns) ≡ Some s.kind
-    kind = rw (field_look c.name columns, l) refl
+    kind : kind_of_name c.name (scope_of frame) ≡ Some s.kind
+    kind = kind_of_found c.name frame s l
 
 -- a node that finds no column has that as its cause
-pub unfound_is_cause : (c : PlannedColumn) (columns : List Series) → found_by c (alone columns) ≡ None → IsOneOf (ColumnNotFound c.name) (causes_on (record { tree = column c.name; columns = c ∷ [] }) (alone columns))
-unfound_is_cause c columns f = by (kind_of_name c.name (map column_field columns))
+pub unfound_is_cause : (c : PlannedColumn) (frame : Frame) → found_by c frame ≡ None → IsOneOf (ColumnNotFound c.name) (causes_on (column_plan c) frame)
+unfound_is_cause c frame f = by (kind_of_name c.name (scope_of frame))
   where
-    by : (o : Option Kind) → IsOneOf (ColumnNotFound c.name) (refused_where (is_none o) (ColumnNotFound c.name) ++ flat_map (unfound_refusal (alone columns)) (c ∷ []) ++ refused_where (has_misfit (column c.name) (alone columns)) ShapeMismatch ++ [])
+    by : (o : Option Kind) → IsOneOf (ColumnNotFound c.name) (refused_where (is_none o) (ColumnNotFound c.name) ++ flat_map (unfound_refusal frame) (c ∷ []) ++ refused_where (has_misfit_column (column_plan c) frame) ShapeMismatch ++ [])
     by None = inl refl
     by (Some k) = rw f (inl refl)
+
+-- and so is a column of another height
+pub misfit_is_cause : (c : PlannedColumn) (frame : Frame) → finds_misfit frame c ≡ true → IsOneOf ShapeMismatch (causes_on (column_plan c) frame)
+misfit_is_cause c frame m =
+    let own : IsOneOf ShapeMismatch (refused_where (has_misfit_column (column_plan c) frame) ShapeMismatch) = rw m (inl refl) in
+    one_left ShapeMismatch (refusals_of (column c.name) (scope_of frame) Default ++ flat_map (unfound_refusal frame) (c ∷ []) ++ refused_where (has_misfit_column (column_plan c) frame) ShapeMismatch) []
+    (one_right ShapeMismatch (refusals_of (column c.name) (scope_of frame) Default ++ flat_map (unfound_refusal frame) (c ∷ [])) (refused_where (has_misfit_column (column_plan c) frame) ShapeMismatch) own)
 
 -- the column behind others that is found is the one of its name
 pub behind_column : (n : List ℕ) (places : ℕ) (behind columns : List Series) (r : Option (Bor Series)) → option_map (λ c. c.now) r ≡ look n (drop places behind) → behind ≡ columns → IsFrame columns → IfSome r (λ c. look n columns ≡ Some c.now)
@@ -122,15 +144,6 @@ behind_column n places behind columns (Some c) h e f = looked_behind n places co
 pub behind_height : (n : List ℕ) (places : ℕ) (behind columns : List Series) (r : Option (Bor Series)) → option_map (λ c. c.now) r ≡ look n (drop places behind) → behind ≡ columns → IsFrame columns → IfSome r (λ c. length c.now.slots ≡ height_of columns)
 behind_height n places behind columns None h e f = tt
 behind_height n places behind columns (Some c) h e f = looked_height n columns c.now f.even (sym (behind_column n places behind columns (Some c) h e f))
-
--- a copy of what was found is the node's value
-pub found_value : (p : Planned) (c : PlannedColumn) (columns : List Series) (r : Option (Bor Series)) (b : Bor Series) (copy : Result Series PxError) → p ≡ record { tree = column c.name; columns = c ∷ [] }
-    → option_map (λ x. x.now) r ≡ found_by c (alone columns) → IfSome r (λ x. look c.name columns ≡ Some x.now) → r ≡ Some b → Answers copy (Ok b.now) → IfOk copy (λ s. IsValue p (alone columns) s)
-found_value p c columns r b (Err e) s f l is a = tt
-found_value p c columns None b (Ok t) s f l is a = absurd (cc is)
-found_value p c columns (Some x) b (Ok t) s f l is a =
-    let same : x.now ≡ t = cc in
-    rw (s, ← same) (found_is_value c columns x.now (sym f) l)
 
 -- the field that a schema finds is the node's
 pub found_field : (p : Planned) (c : PlannedColumn) (scope : List FieldKind) (f : FieldKind) → p ≡ record { tree = column c.name; columns = c ∷ [] } → find (has_field_name c.name) scope ≡ Some f → field_on p.tree scope ≡ Ok f

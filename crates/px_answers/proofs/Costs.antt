@@ -32,6 +32,16 @@ cost_next {X} v xs i x below is F whole old mid h one new rest =
     at : costs_on (map v (drop i xs)) F ≡ costs_on (v x ∷ map v (drop (i + 1) xs)) F
     at = at_drop_more (λ es. costs_on (map v es) F) xs i x below ∙ ap (λ e. costs_on (v e ∷ map v (drop (i + 1) xs)) F) (sym is)
 
+-- no kernel ran
+pub rises_none : (o : Option ℕ) (n : ℕ) → RisesAtMost o n n
+rises_none None n = tt
+rises_none (Some m) n = omega arith
+
+-- the same where nothing ran after it
+pub cost_here : {X : Type 0} (v : X → Tree) (xs : List X) (i : ℕ) (x : X) → i < length xs → x ≡ get_or xs i x → (F : Frame) (whole : ℕ → Type 0) (old mid : ℕ)
+    → ((new : ℕ) → RisesAtMost (costs_on (map v (drop i xs)) F) old new → whole new) → RisesAtMost (cost_on (v x) F) old mid → whole mid
+cost_here v xs i x below is F whole old mid h one = cost_next v xs i x below is F whole old mid h one mid (rises_none (costs_on (map v (drop (i + 1) xs)) F) mid)
+
 -- and at its end
 pub cost_end : {X : Type 0} (v : X → Tree) (xs : List X) (i : ℕ) → length xs ≤ i → (F : Frame) (whole : ℕ → Type 0) (now : ℕ) → ((new : ℕ) → RisesAtMost (costs_on (map v (drop i xs)) F) now new → whole new) → whole now
 cost_end v xs i end F whole now h = h now (subst (λ o. RisesAtMost o now now) (sym (at_drop_all (λ es. costs_on (map v es) F) xs i end)) (costs_none F now))

@@ -9,17 +9,16 @@ use Rattle.px_frame.specs.Cell.{Cell, is_unit_cell}
 use Rattle.px_frame.specs.External.{Frame, scope_of}
 use Rattle.px_frame.specs.Spread.{NamedCell}
 use Rattle.px_nodes.specs.Named.{kinds_of, cells_in, first_name}
-use Rattle.px_tree.specs.Nodes.{leaf_names, all_leaf_names}
 use Rattle.px_tree.specs.Shape.{is_unit_first, are_units}
 use Rattle.px_tree.specs.Shape.{first_name as first_tree_name}
 use Rattle.px_tree.specs.Size.{size_on, sizes_on}
 use Rattle.px_tree.specs.Tree.{Trees, no_trees, one_tree}
 use Rattle.px_tree.specs.Typing.{refusals_of, all_refusals_of, kinds_in, or_first, refused_where}
-use Rattle.px_tree.specs.Value.{cells_on, faults_on, all_faults_on, has_misfit, is_misfit}
+use Rattle.px_tree.specs.Value.{cells_on, faults_on, all_faults_on}
 use Rattle.px_tree.specs.declared.context.Context.TheVariants.{Default}
 use Rattle.px_answers.specs.Parts.{plan_trees, plan_columns}
 use Rattle.px_answers.specs.Planned.{Planned, PlannedColumn}
-use Rattle.px_answers.specs.Value.{IsOneOf, IsCause, IsCauseOfAny, IsCellOf, AreCellsOf, causes_on, unfound_refusal}
+use Rattle.px_answers.specs.Value.{IsOneOf, IsCause, IsCauseOfAny, IsCellOf, AreCellsOf, causes_on, finds_misfit, has_misfit_column, unfound_refusal}
 
 -- what is one of some errors is one of more
 pub among_left : (e : PxError) (xs ys : List PxError) → IsOneOf e xs → IsOneOf e (xs ++ ys)
@@ -64,8 +63,8 @@ one_of_four e rs us ms fs (inl (inr h)) = among_left e (rs ++ us ++ ms) fs (amon
 one_of_four e rs us ms fs (inr (inl h)) = among_left e (rs ++ us ++ ms) fs (among_right e (rs ++ us) ms h)
 one_of_four e rs us ms fs (inr (inr h)) = among_right e (rs ++ us ++ ms) fs h
 
--- a height that does not fit among some names is one among more
-misfit_left : (e : PxError) (g : List ℕ → Bool) (xs ys : List (List ℕ)) → IsOneOf e (refused_where (list_any g xs) ShapeMismatch) → IsOneOf e (refused_where (list_any g (xs ++ ys)) ShapeMismatch)
+-- a height that does not fit among some columns is one among more
+misfit_left : (e : PxError) (g : PlannedColumn → Bool) (xs ys : List PlannedColumn) → IsOneOf e (refused_where (list_any g xs) ShapeMismatch) → IsOneOf e (refused_where (list_any g (xs ++ ys)) ShapeMismatch)
 misfit_left e g [] ys h = absurd h
 misfit_left e g (x ∷ xs) ys h = by (g x) h (misfit_left e g xs ys)
   where
@@ -74,7 +73,7 @@ misfit_left e g (x ∷ xs) ys h = by (g x) h (misfit_left e g xs ys)
     by true k rest = k
     by false k rest = rest k
 
-misfit_right : (e : PxError) (g : List ℕ → Bool) (xs ys : List (List ℕ)) → IsOneOf e (refused_where (list_any g ys) ShapeMismatch) → IsOneOf e (refused_where (list_any g (xs ++ ys)) ShapeMismatch)
+misfit_right : (e : PxError) (g : PlannedColumn → Bool) (xs ys : List PlannedColumn) → IsOneOf e (refused_where (list_any g ys) ShapeMismatch) → IsOneOf e (refused_where (list_any g (xs ++ ys)) ShapeMismatch)
 misfit_right e g [] ys h = h
 misfit_right e g (x ∷ xs) ys h = by (g x) (misfit_right e g xs ys h)
   where
@@ -94,7 +93,7 @@ abbrev all_unfound : List Planned → Frame → List PxError
 all_unfound ps f = flat_map (unfound_refusal f) (plan_columns ps)
 
 abbrev all_misfits : List Planned → Frame → List PxError
-all_misfits ps f = refused_where (list_any (is_misfit f) (all_leaf_names (plan_trees ps))) ShapeMismatch
+all_misfits ps f = refused_where (list_any (finds_misfit f) (plan_columns ps)) ShapeMismatch
 
 abbrev all_faults : List Planned → Frame → List PxError
 all_faults ps f = all_faults_on (plan_trees ps) f
@@ -107,23 +106,23 @@ sort_of_cause e (p ∷ ps) f h = by (sort_of_cause e ps f) (among_either e (caus
     unfound_apart : all_unfound (p ∷ ps) f ≡ flat_map (unfound_refusal f) p.columns ++ all_unfound ps f
     unfound_apart = flat_map-append (unfound_refusal f) p.columns (plan_columns ps)
 
-    here : IsOneOfFour e (refusals_of p.tree (scope_of f) Default) (flat_map (unfound_refusal f) p.columns) (refused_where (has_misfit p.tree f) ShapeMismatch) (faults_on p.tree f)
+    here : IsOneOfFour e (refusals_of p.tree (scope_of f) Default) (flat_map (unfound_refusal f) p.columns) (refused_where (has_misfit_column p f) ShapeMismatch) (faults_on p.tree f)
         → IsOneOfFour e (all_refused (p ∷ ps) f) (all_unfound (p ∷ ps) f) (all_misfits (p ∷ ps) f) (all_faults (p ∷ ps) f)
     here (inl (inl k)) = inl (inl (among_left e (refusals_of p.tree (scope_of f) Default) (all_refused ps f) k))
     here (inl (inr k)) = inl (inr (subst (IsOneOf e) (sym unfound_apart) (among_left e (flat_map (unfound_refusal f) p.columns) (all_unfound ps f) k)))
-    here (inr (inl k)) = inr (inl (misfit_left e (is_misfit f) (leaf_names p.tree) (all_leaf_names (plan_trees ps)) k))
+    here (inr (inl k)) = inr (inl (misfit_left e (finds_misfit f) p.columns (plan_columns ps) k))
     here (inr (inr k)) = inr (inr (among_left e (faults_on p.tree f) (all_faults ps f) k))
 
     later : IsOneOfFour e (all_refused ps f) (all_unfound ps f) (all_misfits ps f) (all_faults ps f)
         → IsOneOfFour e (all_refused (p ∷ ps) f) (all_unfound (p ∷ ps) f) (all_misfits (p ∷ ps) f) (all_faults (p ∷ ps) f)
     later (inl (inl k)) = inl (inl (among_right e (refusals_of p.tree (scope_of f) Default) (all_refused ps f) k))
     later (inl (inr k)) = inl (inr (subst (IsOneOf e) (sym unfound_apart) (among_right e (flat_map (unfound_refusal f) p.columns) (all_unfound ps f) k)))
-    later (inr (inl k)) = inr (inl (misfit_right e (is_misfit f) (leaf_names p.tree) (all_leaf_names (plan_trees ps)) k))
+    later (inr (inl k)) = inr (inl (misfit_right e (finds_misfit f) p.columns (plan_columns ps) k))
     later (inr (inr k)) = inr (inr (among_right e (faults_on p.tree f) (all_faults ps f) k))
 
     by : (IsOneOf e (flat_map (λ q. causes_on q f) ps) → IsOneOfFour e (all_refused ps f) (all_unfound ps f) (all_misfits ps f) (all_faults ps f)) → IsOneOf e (causes_on p f) ⊎ IsOneOf e (flat_map (λ q. causes_on q f) ps)
         → IsOneOfFour e (all_refused (p ∷ ps) f) (all_unfound (p ∷ ps) f) (all_misfits (p ∷ ps) f) (all_faults (p ∷ ps) f)
-    by rest (inl k) = here (which_of_four e (refusals_of p.tree (scope_of f) Default) (flat_map (unfound_refusal f) p.columns) (refused_where (has_misfit p.tree f) ShapeMismatch) (faults_on p.tree f) k)
+    by rest (inl k) = here (which_of_four e (refusals_of p.tree (scope_of f) Default) (flat_map (unfound_refusal f) p.columns) (refused_where (has_misfit_column p f) ShapeMismatch) (faults_on p.tree f) k)
     by rest (inr k) = later (rest k)
 
 among_or_first : (e : PxError) (rs own : List PxError) → IsOneOf e rs → IsOneOf e (or_first rs own)
@@ -209,19 +208,19 @@ cause_of_others e p ps f h =
 
 -- a cause of an input is one of the node over the inputs
 pub cause_of_inputs : (e : PxError) (ps : List Planned) (q : Planned) (f : Frame) (own more : List PxError)
-    → refusals_of q.tree (scope_of f) Default ≡ or_first (all_refused ps f) own → q.columns ≡ plan_columns ps → leaf_names q.tree ≡ all_leaf_names (plan_trees ps) → faults_on q.tree f ≡ all_faults ps f ++ more
+    → refusals_of q.tree (scope_of f) Default ≡ or_first (all_refused ps f) own → q.columns ≡ plan_columns ps → faults_on q.tree f ≡ all_faults ps f ++ more
     → (2 ^ 32 ≤ sizes_on (plan_trees ps) (f ∷ []) → 2 ^ 32 ≤ size_on q.tree (f ∷ [])) → IsCauseOfAny e ps f → IsCause e q f
-cause_of_inputs e ps q f own more r u m t s h = any_cause_of e ps q f s (λ k. lifted (sort_of_cause e ps f k)) h
+cause_of_inputs e ps q f own more r u t s h = any_cause_of e ps q f s (λ k. lifted (sort_of_cause e ps f k)) h
   where
     lifted : IsOneOfFour e (all_refused ps f) (all_unfound ps f) (all_misfits ps f) (all_faults ps f) → IsOneOf e (causes_on q f)
     lifted k =
-        one_of_four e (refusals_of q.tree (scope_of f) Default) (flat_map (unfound_refusal f) q.columns) (refused_where (has_misfit q.tree f) ShapeMismatch) (faults_on q.tree f) (by k)
+        one_of_four e (refusals_of q.tree (scope_of f) Default) (flat_map (unfound_refusal f) q.columns) (refused_where (has_misfit_column q f) ShapeMismatch) (faults_on q.tree f) (by k)
       where
         by : IsOneOfFour e (all_refused ps f) (all_unfound ps f) (all_misfits ps f) (all_faults ps f)
-            → IsOneOfFour e (refusals_of q.tree (scope_of f) Default) (flat_map (unfound_refusal f) q.columns) (refused_where (has_misfit q.tree f) ShapeMismatch) (faults_on q.tree f)
+            → IsOneOfFour e (refusals_of q.tree (scope_of f) Default) (flat_map (unfound_refusal f) q.columns) (refused_where (has_misfit_column q f) ShapeMismatch) (faults_on q.tree f)
         by (inl (inl j)) = inl (inl (subst (IsOneOf e) (sym r) (among_or_first e (all_refused ps f) own j)))
         by (inl (inr j)) = inl (inr (subst (λ (cs : List PlannedColumn). IsOneOf e (flat_map (unfound_refusal f) cs)) (sym u) j))
-        by (inr (inl j)) = inr (inl (subst (λ (ns : List (List ℕ)). IsOneOf e (refused_where (list_any (is_misfit f) ns) ShapeMismatch)) (sym m) j))
+        by (inr (inl j)) = inr (inl (subst (λ (cs : List PlannedColumn). IsOneOf e (refused_where (list_any (finds_misfit f) cs) ShapeMismatch)) (sym u) j))
         by (inr (inr j)) = inr (inr (subst (IsOneOf e) (sym t) (among_left e (all_faults ps f) more j)))
 
 no_front : {X : Type 0} (xs ys : List X) → xs ++ ys ≡ [] → (xs ≡ []) × (ys ≡ [])
@@ -236,15 +235,15 @@ fits_there false h = refl
 record IsClear (p : Planned) (f : Frame) : Type 0 where
   pub refused : refusals_of p.tree (scope_of f) Default ≡ []
   pub found : flat_map (unfound_refusal f) p.columns ≡ []
-  pub fits : has_misfit p.tree f ≡ false
+  pub fits : has_misfit_column p f ≡ false
   pub faults : faults_on p.tree f ≡ []
 
 clear_of : (p : Planned) (f : Frame) → causes_on p f ≡ [] → IsClear p f
 clear_of p f h =
-    let last = no_front (refusals_of p.tree (scope_of f) Default ++ flat_map (unfound_refusal f) p.columns ++ refused_where (has_misfit p.tree f) ShapeMismatch) (faults_on p.tree f) h in
-    let middle = no_front (refusals_of p.tree (scope_of f) Default ++ flat_map (unfound_refusal f) p.columns) (refused_where (has_misfit p.tree f) ShapeMismatch) last.0 in
+    let last = no_front (refusals_of p.tree (scope_of f) Default ++ flat_map (unfound_refusal f) p.columns ++ refused_where (has_misfit_column p f) ShapeMismatch) (faults_on p.tree f) h in
+    let middle = no_front (refusals_of p.tree (scope_of f) Default ++ flat_map (unfound_refusal f) p.columns) (refused_where (has_misfit_column p f) ShapeMismatch) last.0 in
     let first = no_front (refusals_of p.tree (scope_of f) Default) (flat_map (unfound_refusal f) p.columns) middle.0 in
-    record { refused = first.0; found = first.1; fits = fits_there (has_misfit p.tree f) middle.1; faults = last.1 }
+    record { refused = first.0; found = first.1; fits = fits_there (has_misfit_column p f) middle.1; faults = last.1 }
 
 -- whether the first cell is a unit
 abbrev pub is_unit_first_cell : List Cell → Bool
@@ -266,7 +265,7 @@ AreAsMany _ _ = ⊥
 pub record AreInputs (ps : List Planned) (f : Frame) (cs : List NamedCell) : Type 0 where
   pub refused : all_refusals_of (plan_trees ps) (scope_of f) Default ≡ []
   pub found : flat_map (unfound_refusal f) (plan_columns ps) ≡ []
-  pub fits : list_any (is_misfit f) (all_leaf_names (plan_trees ps)) ≡ false
+  pub fits : list_any (finds_misfit f) (plan_columns ps) ≡ false
   pub faults : all_faults_on (plan_trees ps) f ≡ []
   pub kinds : kinds_in (plan_trees ps) (scope_of f) ≡ Some (kinds_of cs)
   pub cells : cells_on (plan_trees ps) f ≡ Some (cells_in cs)
@@ -275,7 +274,7 @@ pub record AreInputs (ps : List Planned) (f : Frame) (cs : List NamedCell) : Typ
   pub first : is_unit_first_cell (cells_in cs) ≡ is_unit_first (plan_trees ps)
   pub units : are_unit_cells (cells_in cs) ≡ are_units (plan_trees ps)
 
-none_of_both : (g : List ℕ → Bool) (xs ys : List (List ℕ)) → list_any g xs ≡ false → list_any g ys ≡ false → list_any g (xs ++ ys) ≡ false
+none_of_both : (g : PlannedColumn → Bool) (xs ys : List PlannedColumn) → list_any g xs ≡ false → list_any g ys ≡ false → list_any g (xs ++ ys) ≡ false
 none_of_both g [] ys h k = k
 none_of_both g (x ∷ xs) ys h k = by (g x) h (λ j. none_of_both g xs ys j k)
   where
@@ -294,7 +293,7 @@ inputs_of (p ∷ ps) f (c ∷ cs) h =
     record {
       refused = rw (own.refused, rest.refused) refl;
       found = flat_map-append (unfound_refusal f) p.columns (plan_columns ps) ∙ rw (own.found, rest.found) refl;
-      fits = none_of_both (is_misfit f) (leaf_names p.tree) (all_leaf_names (plan_trees ps)) own.fits rest.fits;
+      fits = none_of_both (finds_misfit f) p.columns (plan_columns ps) own.fits rest.fits;
       faults = rw (own.faults, rest.faults) refl;
       kinds = rw (here.kind, rest.kinds) refl;
       cells = rw (here.value, rest.cells) refl;

@@ -15,17 +15,16 @@ use Rattle.px_frame.specs.External.{Frame, scope_of}
 use Rattle.px_frame.specs.Spread.{NamedCell}
 use Rattle.px_nodes.specs.Named.{under}
 use Rattle.px_tree.proofs.KindLaws.{none_left, none_right}
-use Rattle.px_tree.specs.Nodes.{leaf_names, all_leaf_names}
 use Rattle.px_tree.specs.Shape.{is_unit, name_of}
 use Rattle.px_tree.specs.Size.{count_on, size_on, sizes_on}
 use Rattle.px_tree.specs.Typing.{Scope, kind_in, refusals_of, all_refusals_of, own_refusals, or_first, refusal_of, refused_where}
-use Rattle.px_tree.specs.Value.{outcome_on, made, fault_in, faults_on, all_faults_on, has_misfit, is_misfit}
+use Rattle.px_tree.specs.Value.{outcome_on, made, fault_in, faults_on, all_faults_on}
 use Rattle.px_tree.specs.declared.context.Context.{Context}
 use Rattle.px_tree.specs.declared.context.Context.TheVariants.{Default}
 use Rattle.px_answers.proofs.Plain.{is_plain, Plain}
 use Rattle.px_answers.specs.Parts.{plan_trees}
 use Rattle.px_answers.specs.Planned.{Planned, PlannedColumn}
-use Rattle.px_answers.specs.Value.{IsOneOf, IsCause, IsCellOf, causes_on, unfound_refusal}
+use Rattle.px_answers.specs.Value.{IsOneOf, IsCause, IsCellOf, causes_on, finds_misfit, has_misfit_column, unfound_refusal}
 
 -- it is one of these expressions
 abbrev pub IsIn : Planned → List Planned → Type 0
@@ -36,7 +35,6 @@ IsIn p (q ∷ qs) = (p ≡ q) ⊎ IsIn p qs
 pub record IsNode (q : Planned) (ps : List Planned) (f : Frame) : Type 0 where
   pub refusals : (place : Context) → refusals_of q.tree (scope_of f) place ≡ or_first (flat_map (λ (p : Planned). refusals_of p.tree (scope_of f) place) ps) (own_refusals q.tree (scope_of f) place)
   pub columns : q.columns ≡ flat_map (λ (p : Planned). p.columns) ps
-  pub leaves : leaf_names q.tree ≡ flat_map (λ (p : Planned). leaf_names p.tree) ps
   pub faults : faults_on q.tree f ≡ flat_map (λ (p : Planned). faults_on p.tree f) ps ++ fault_in (outcome_on q.tree f)
   pub sizes : (fs : List Frame) → sizes_on (plan_trees ps) fs ≤ size_on q.tree fs
 
@@ -85,14 +83,13 @@ or_true : (a b : Bool) → b ≡ true → (a || b) ≡ true
 or_true true b h = refl
 or_true false b h = h
 
-pub any_in : (t : List ℕ → Bool) (p : Planned) (ps : List Planned) → IsIn p ps → list_any t (leaf_names p.tree) ≡ true → list_any t (flat_map (λ (x : Planned). leaf_names x.tree) ps) ≡ true
+pub any_in : (t : PlannedColumn → Bool) (p : Planned) (ps : List Planned) → IsIn p ps → list_any t p.columns ≡ true → list_any t (flat_map (λ (x : Planned). x.columns) ps) ≡ true
 any_in t p [] i h = absurd i
 any_in t p (q ∷ qs) (inl s) h =
-    let here : list_any t (leaf_names q.tree) ≡ true = subst (λ (x : Planned). list_any t (leaf_names x.tree) ≡ true) s h in
-    list_any-append t (leaf_names q.tree) (flat_map (λ (x : Planned). leaf_names x.tree) qs) ∙ ap (λ b. b || list_any t (flat_map (λ (x : Planned). leaf_names x.tree) qs)) here
+    let here : list_any t q.columns ≡ true = subst (λ (x : Planned). list_any t x.columns ≡ true) s h in
+    list_any-append t q.columns (flat_map (λ (x : Planned). x.columns) qs) ∙ ap (λ b. b || list_any t (flat_map (λ (x : Planned). x.columns) qs)) here
 any_in t p (q ∷ qs) (inr i) h =
-    list_any-append t (leaf_names q.tree) (flat_map (λ (x : Planned). leaf_names x.tree) qs)
-    ∙ or_true (list_any t (leaf_names q.tree)) (list_any t (flat_map (λ (x : Planned). leaf_names x.tree) qs)) (any_in t p qs i h)
+    list_any-append t q.columns (flat_map (λ (x : Planned). x.columns) qs) ∙ or_true (list_any t q.columns) (list_any t (flat_map (λ (x : Planned). x.columns) qs)) (any_in t p qs i h)
 
 pub size_in : (p : Planned) (ps : List Planned) (fs : List Frame) → IsIn p ps → size_on p.tree fs ≤ sizes_on (plan_trees ps) fs
 size_in p [] fs i = absurd i
@@ -131,13 +128,13 @@ causes_above e q ps p f n i k =
     let rq = refusals_of q.tree (scope_of f) Default in
     let up = flat_map (unfound_refusal f) p.columns in
     let uq = flat_map (unfound_refusal f) q.columns in
-    let mp = refused_where (has_misfit p.tree f) ShapeMismatch in
-    let mq = refused_where (has_misfit q.tree f) ShapeMismatch in
+    let mp = refused_where (has_misfit_column p f) ShapeMismatch in
+    let mq = refused_where (has_misfit_column q f) ShapeMismatch in
     both_up e (rp ++ up ++ mp) (faults_on p.tree f) (rq ++ uq ++ mq) (faults_on q.tree f)
     (both_up e (rp ++ up) mp (rq ++ uq) mq (both_up e rp up rq uq (refusals_above e q ps p f n i) (unfound_above e q ps p f n i)) misfit) faults k
   where
-    misfit : IsOneOf e (refused_where (has_misfit p.tree f) ShapeMismatch) → IsOneOf e (refused_where (has_misfit q.tree f) ShapeMismatch)
-    misfit j = where_up e ShapeMismatch (has_misfit p.tree f) (has_misfit q.tree f) (λ t. ap (list_any (is_misfit f)) n.leaves ∙ any_in (is_misfit f) p ps i t) j
+    misfit : IsOneOf e (refused_where (has_misfit_column p f) ShapeMismatch) → IsOneOf e (refused_where (has_misfit_column q f) ShapeMismatch)
+    misfit j = where_up e ShapeMismatch (has_misfit_column p f) (has_misfit_column q f) (λ t. ap (list_any (finds_misfit f)) n.columns ∙ any_in (finds_misfit f) p ps i t) j
 
     faults : IsOneOf e (faults_on p.tree f) → IsOneOf e (faults_on q.tree f)
     faults j = subst (IsOneOf e) (sym n.faults) (one_left e (flat_map (λ (x : Planned). faults_on x.tree f) ps) (fault_in (outcome_on q.tree f)) (in_all e (λ (x : Planned). faults_on x.tree f) p ps i j))
@@ -166,22 +163,21 @@ pub parts_none : (r u m fs : List PxError) → r ≡ [] → u ≡ [] → m ≡ [
 parts_none r u m fs a b c d = rw (a, b, c, d) refl
 
 -- an expression with no cause: its four kinds of causes
-pub parts_of : (p : Planned) (f : Frame) → causes_on p f ≡ [] → (refusals_of p.tree (scope_of f) Default ≡ []) × (flat_map (unfound_refusal f) p.columns ≡ []) × (refused_where (has_misfit p.tree f) ShapeMismatch ≡ []) × (faults_on p.tree f ≡ [])
-parts_of p f h = none_parts (refusals_of p.tree (scope_of f) Default) (flat_map (unfound_refusal f) p.columns) (refused_where (has_misfit p.tree f) ShapeMismatch) (faults_on p.tree f) h
+pub parts_of : (p : Planned) (f : Frame) → causes_on p f ≡ [] → (refusals_of p.tree (scope_of f) Default ≡ []) × (flat_map (unfound_refusal f) p.columns ≡ []) × (refused_where (has_misfit_column p f) ShapeMismatch ≡ []) × (faults_on p.tree f ≡ [])
+parts_of p f h = none_parts (refusals_of p.tree (scope_of f) Default) (flat_map (unfound_refusal f) p.columns) (refused_where (has_misfit_column p f) ShapeMismatch) (faults_on p.tree f) h
 
 not_where : (b : Bool) (s : PxError) → refused_where b s ≡ [] → b ≡ false
 not_where true s h = absurd (cc h)
 not_where false s h = refl
 
--- where no input names a column of another height, their node names none
-pub no_misfit : (t : List ℕ → Bool) (s : PxError) (ps : List Planned) → flat_map (λ (p : Planned). refused_where (list_any t (leaf_names p.tree)) s) ps ≡ [] → list_any t (flat_map (λ (p : Planned). leaf_names p.tree) ps) ≡ false
+-- where no input finds a column of another height, their node finds none
+pub no_misfit : (t : PlannedColumn → Bool) (s : PxError) (ps : List Planned) → flat_map (λ (p : Planned). refused_where (list_any t p.columns) s) ps ≡ [] → list_any t (flat_map (λ (p : Planned). p.columns) ps) ≡ false
 no_misfit t s [] e = refl
 no_misfit t s (p ∷ ps) e =
-    let one = refused_where (list_any t (leaf_names p.tree)) s in
-    let others = flat_map (λ (x : Planned). refused_where (list_any t (leaf_names x.tree)) s) ps in
-    let here = not_where (list_any t (leaf_names p.tree)) s (none_left one others e) in
-    list_any-append t (leaf_names p.tree) (flat_map (λ (x : Planned). leaf_names x.tree) ps)
-    ∙ ap (λ b. b || list_any t (flat_map (λ (x : Planned). leaf_names x.tree) ps)) here ∙ no_misfit t s ps (none_right one others e)
+    let one = refused_where (list_any t p.columns) s in
+    let others = flat_map (λ (x : Planned). refused_where (list_any t x.columns) s) ps in
+    let here = not_where (list_any t p.columns) s (none_left one others e) in
+    list_any-append t p.columns (flat_map (λ (x : Planned). x.columns) ps) ∙ ap (λ b. b || list_any t (flat_map (λ (x : Planned). x.columns) ps)) here ∙ no_misfit t s ps (none_right one others e)
 
 -- the refusals of a node whose inputs have no cause
 own_alone : (q : Planned) (ps : List Planned) (f : Frame) → IsNode q ps f → flat_map (λ (p : Planned). causes_on p f) ps ≡ [] → refusals_of q.tree (scope_of f) Default ≡ or_first [] (own_refusals q.tree (scope_of f) Default)
@@ -191,7 +187,7 @@ own_alone q ps f n h =
 -- a node has no cause where its inputs have none, and it has none of its own
 pub sound_above : (q : Planned) (ps : List Planned) (f : Frame) → IsNode q ps f → flat_map (λ (p : Planned). causes_on p f) ps ≡ [] → or_first [] (own_refusals q.tree (scope_of f) Default) ≡ [] → fault_in (outcome_on q.tree f) ≡ [] → causes_on q f ≡ []
 sound_above q ps f n h own fault =
-    parts_none (refusals_of q.tree (scope_of f) Default) (flat_map (unfound_refusal f) q.columns) (refused_where (has_misfit q.tree f) ShapeMismatch) (faults_on q.tree f)
+    parts_none (refusals_of q.tree (scope_of f) Default) (flat_map (unfound_refusal f) q.columns) (refused_where (has_misfit_column q f) ShapeMismatch) (faults_on q.tree f)
     (own_alone q ps f n h ∙ own) unfound misfit faults
   where
     each : (g : Planned → List PxError) → ((p : Planned) → causes_on p f ≡ [] → g p ≡ []) → flat_map g ps ≡ []
@@ -200,10 +196,10 @@ sound_above q ps f n h own fault =
     unfound : flat_map (unfound_refusal f) q.columns ≡ []
     unfound = unfound_apart q ps f n ∙ each (λ (p : Planned). flat_map (unfound_refusal f) p.columns) (λ p k. (parts_of p f k).1)
 
-    misfit : refused_where (has_misfit q.tree f) ShapeMismatch ≡ []
+    misfit : refused_where (has_misfit_column q f) ShapeMismatch ≡ []
     misfit =
-        let none = no_misfit (is_misfit f) ShapeMismatch ps (each (λ (p : Planned). refused_where (has_misfit p.tree f) ShapeMismatch) (λ p k. (parts_of p f k).2)) in
-        ap (λ b. refused_where b ShapeMismatch) (ap (list_any (is_misfit f)) n.leaves ∙ none)
+        let none = no_misfit (finds_misfit f) ShapeMismatch ps (each (λ (p : Planned). refused_where (has_misfit_column p f) ShapeMismatch) (λ p k. (parts_of p f k).2)) in
+        ap (λ b. refused_where b ShapeMismatch) (ap (list_any (finds_misfit f)) n.columns ∙ none)
 
     faults : faults_on q.tree f ≡ []
     faults = n.faults ∙ ap (λ xs. xs ++ fault_in (outcome_on q.tree f)) (each (λ (p : Planned). faults_on p.tree f) (λ p k. (parts_of p f k).3)) ∙ fault
@@ -213,7 +209,7 @@ own_refusal : (e : PxError) (q : Planned) (ps : List Planned) (f : Frame) → Is
 own_refusal e q ps f n h own =
     let r = refusals_of q.tree (scope_of f) Default in
     let u = flat_map (unfound_refusal f) q.columns in
-    let m = refused_where (has_misfit q.tree f) ShapeMismatch in
+    let m = refused_where (has_misfit_column q f) ShapeMismatch in
     let first : IsOneOf e r = subst (IsOneOf e) (sym (own_alone q ps f n h ∙ own)) (inl refl) in
     one_left e (r ++ u ++ m) (faults_on q.tree f) (one_left e (r ++ u) m (one_left e r u first))
 
@@ -226,7 +222,7 @@ fault_among e q ps f n h =
 -- and so it is a cause
 own_fault : (e : PxError) (q : Planned) (ps : List Planned) (f : Frame) → IsNode q ps f → fault_in (outcome_on q.tree f) ≡ e ∷ [] → IsOneOf e (causes_on q f)
 own_fault e q ps f n h =
-    one_right e (refusals_of q.tree (scope_of f) Default ++ flat_map (unfound_refusal f) q.columns ++ refused_where (has_misfit q.tree f) ShapeMismatch) (faults_on q.tree f) (fault_among e q ps f n h)
+    one_right e (refusals_of q.tree (scope_of f) Default ++ flat_map (unfound_refusal f) q.columns ++ refused_where (has_misfit_column q f) ShapeMismatch) (faults_on q.tree f) (fault_among e q ps f n h)
 
 plain_cause : (e : PxError) (p : Planned) (f : Frame) → is_plain e ≡ true → IsOneOf e (causes_on p f) → IsCause e p f
 plain_cause OutOfMemory p f i h = tt
@@ -304,10 +300,6 @@ all_refusals_apart scope place (p ∷ ps) = ap (λ rs. refusals_of p.tree scope 
 pub all_faults_apart : (f : Frame) (ps : List Planned) → all_faults_on (plan_trees ps) f ≡ flat_map (λ (p : Planned). faults_on p.tree f) ps
 all_faults_apart f [] = refl
 all_faults_apart f (p ∷ ps) = ap (λ es. faults_on p.tree f ++ es) (all_faults_apart f ps)
-
-pub all_leaves_apart : (ps : List Planned) → all_leaf_names (plan_trees ps) ≡ flat_map (λ (p : Planned). leaf_names p.tree) ps
-all_leaves_apart [] = refl
-all_leaves_apart (p ∷ ps) = ap (λ ns. leaf_names p.tree ++ ns) (all_leaves_apart ps)
 
 -- lists side by side, with an empty one behind
 pub one_apart : {A : Type 0} (a : List A) → a ≡ a ++ []

@@ -1,8 +1,10 @@
 pub mod Applied
+pub mod Beside
 pub mod Cells
 pub mod Columns
 pub mod Costs
 pub mod Counts
+pub mod Groupings
 pub mod InputLists
 pub mod Inputs
 pub mod Literals
@@ -12,5 +14,7 @@ pub mod Partitioned
 pub mod Plain
 pub mod Ranges
 pub mod Reductions
+pub mod Refusals
+pub mod Scopes
 pub mod Selections
 pub mod SortedBy

@@ -14,7 +14,6 @@ use Rattle.px_frame.specs.External.{Frame, scope_of}
 use Rattle.px_frame.specs.Spread.{NamedCell, column_of_cell, rows_beside, spread}
 use Rattle.px_nodes.specs.Named.{under, binary_named, ternary_named, cast_named}
 use Rattle.px_tree.specs.Node.{binary_cell, ternary_cell, cast_cell, zip_cells, zip_three_cells}
-use Rattle.px_tree.specs.Nodes.{leaf_names}
 use Rattle.px_tree.specs.Typing.{kind_in, made_kind, refusals_of, own_refusals, or_first, refusal_of, refused_where}
 use Rattle.px_tree.specs.Value.{outcome_on, fault_in, faults_on}
 use Rattle.px_tree.specs.declared.context.Context.TheVariants.{Default}
@@ -105,7 +104,6 @@ pub binary_node : (b : PlannedBinary) (f : Frame) → IsNode (binary_plan b) (b.
 binary_node b f = record {
   refusals = λ place. ap (λ rs. or_first rs (own_refusals (binary_plan b).tree (scope_of f) place)) (two_apart (refusals_of b.left.tree (scope_of f) place) (refusals_of b.right.tree (scope_of f) place));
   columns = two_apart b.left.columns b.right.columns;
-  leaves = two_apart (leaf_names b.left.tree) (leaf_names b.right.tree);
   faults = ap (λ es. es ++ fault_in (outcome_on (binary_plan b).tree f)) (two_apart (faults_on b.left.tree f) (faults_on b.right.tree f));
   sizes = λ fs. omega arith;
 }
@@ -150,7 +148,6 @@ pub ternary_node : (t : PlannedTernary) (f : Frame) → IsNode (ternary_plan t) 
 ternary_node t f = record {
   refusals = λ place. ap (λ rs. or_first rs (own_refusals (ternary_plan t).tree (scope_of f) place)) (three_apart (refusals_of t.predicate.tree (scope_of f) place) (refusals_of t.truthy.tree (scope_of f) place) (refusals_of t.falsy.tree (scope_of f) place));
   columns = ap (λ cs. t.predicate.columns ++ cs) (two_apart t.truthy.columns t.falsy.columns);
-  leaves = ap (λ ns. leaf_names t.predicate.tree ++ ns) (two_apart (leaf_names t.truthy.tree) (leaf_names t.falsy.tree));
   faults = ap (λ es. es ++ fault_in (outcome_on (ternary_plan t).tree f)) (three_apart (faults_on t.predicate.tree f) (faults_on t.truthy.tree f) (faults_on t.falsy.tree f));
   sizes = λ fs. omega arith;
 }
@@ -212,7 +209,6 @@ pub cast_node : (c : PlannedCast) (f : Frame) → IsNode (cast_plan c) (c.input 
 cast_node c f = record {
   refusals = λ place. ap (λ rs. or_first rs (own_refusals (cast_plan c).tree (scope_of f) place)) (one_apart (refusals_of c.input.tree (scope_of f) place));
   columns = one_apart c.input.columns;
-  leaves = one_apart (leaf_names c.input.tree);
   faults = ap (λ es. es ++ fault_in (outcome_on (cast_plan c).tree f)) (one_apart (faults_on c.input.tree f));
   sizes = λ fs. omega arith;
 }

@@ -13,7 +13,6 @@ use Rattle.px_frame.specs.Schema.{FieldKind}
 use Rattle.px_frame.specs.Spread.{NamedCell, column_of_cell}
 use Rattle.px_nodes.specs.Named.{aggregation_named}
 use Rattle.px_tree.specs.Node.{reduction_cell}
-use Rattle.px_tree.specs.Nodes.{leaf_names}
 use Rattle.px_tree.specs.Shape.{is_unit, is_implode, name_of}
 use Rattle.px_tree.specs.Tree.{Tree, agg}
 use Rattle.px_tree.specs.Typing.{Scope, kind_in, refusals_of, own_refusals, refusal_of, or_first, first_or_kind, made_kind}
@@ -51,7 +50,6 @@ pub reduction_node : (r : PlannedReduction) (f : Frame) → IsNode (reduction_pl
 reduction_node r f = record {
   refusals = λ place. ap (λ rs. or_first rs (own_refusals (reduction_plan r).tree (scope_of f) place)) (one_apart (refusals_of r.input.tree (scope_of f) place));
   columns = one_apart r.input.columns;
-  leaves = one_apart (leaf_names r.input.tree);
   faults = none_behind (faults_on r.input.tree f) (fault_in (outcome_on (reduction_plan r).tree f)) (no_reduction_fault r.method r.input.tree f);
   sizes = λ fs. omega arith;
 }

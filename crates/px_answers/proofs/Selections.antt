@@ -18,7 +18,6 @@ use Rattle.px_frame.specs.External.{Frame, scope_of}
 use Rattle.px_frame.specs.Spread.{NamedCell, column_of_cell, spread}
 use Rattle.px_nodes.specs.Named.{under, filter_named, slice_named, gather_named, sort_named}
 use Rattle.px_tree.specs.Node.{filter_cell, slice_cell, gather_cell, sort_cell, one_value, offset_of, length_of, is_index, indexed, is_null_unit}
-use Rattle.px_tree.specs.Nodes.{leaf_names}
 use Rattle.px_tree.specs.Shape.{is_literal_tree}
 use Rattle.px_tree.specs.Tree.{Tree, sort}
 use Rattle.px_tree.specs.Typing.{kind_in, refusals_of, own_refusals, or_first, refusal_of, refused_where, is_integer_or_null}
@@ -56,7 +55,6 @@ pub filter_node : (p : PlannedFilter) (f : Frame) → IsNode (filter_plan p) (p.
 filter_node p f = record {
   refusals = λ place. ap (λ rs. or_first rs (own_refusals (filter_plan p).tree (scope_of f) place)) (two_apart (refusals_of p.input.tree (scope_of f) place) (refusals_of p.by.tree (scope_of f) place));
   columns = two_apart p.input.columns p.by.columns;
-  leaves = two_apart (leaf_names p.input.tree) (leaf_names p.by.tree);
   faults = ap (λ es. es ++ fault_in (outcome_on (filter_plan p).tree f)) (two_apart (faults_on p.input.tree f) (faults_on p.by.tree f));
   sizes = λ fs. omega arith;
 }
@@ -137,7 +135,6 @@ pub slice_node : (s : PlannedSlice) (f : Frame) → IsNode (slice_plan s) (s.inp
 slice_node s f = record {
   refusals = λ place. ap (λ rs. or_first rs (own_refusals (slice_plan s).tree (scope_of f) place)) (three_apart (refusals_of s.input.tree (scope_of f) place) (refusals_of s.offset.tree (scope_of f) place) (refusals_of s.length.tree (scope_of f) place));
   columns = ap (λ cs. s.input.columns ++ cs) (two_apart s.offset.columns s.length.columns);
-  leaves = ap (λ ns. leaf_names s.input.tree ++ ns) (two_apart (leaf_names s.offset.tree) (leaf_names s.length.tree));
   faults = ap (λ es. es ++ fault_in (outcome_on (slice_plan s).tree f)) (three_apart (faults_on s.input.tree f) (faults_on s.offset.tree f) (faults_on s.length.tree f));
   sizes = λ fs. omega arith;
 }
@@ -214,7 +211,6 @@ pub gather_node : (g : PlannedGather) (f : Frame) → IsNode (gather_plan g) (g.
 gather_node g f = record {
   refusals = λ place. ap (λ rs. or_first rs (own_refusals (gather_plan g).tree (scope_of f) place)) (two_apart (refusals_of g.phys_expr.tree (scope_of f) place) (refusals_of g.idx.tree (scope_of f) place));
   columns = two_apart g.phys_expr.columns g.idx.columns;
-  leaves = two_apart (leaf_names g.phys_expr.tree) (leaf_names g.idx.tree);
   faults = ap (λ es. es ++ fault_in (outcome_on (gather_plan g).tree f)) (two_apart (faults_on g.phys_expr.tree f) (faults_on g.idx.tree f));
   sizes = λ fs. omega arith;
 }
@@ -300,7 +296,6 @@ pub sort_node : (s : PlannedSort) (f : Frame) → IsNode (sort_plan s) (s.physic
 sort_node s f = record {
   refusals = λ place. ap (λ rs. or_first rs (own_refusals (sort_plan s).tree (scope_of f) place)) (one_apart (refusals_of s.physical_expr.tree (scope_of f) place));
   columns = one_apart s.physical_expr.columns;
-  leaves = one_apart (leaf_names s.physical_expr.tree);
   faults = none_behind (faults_on s.physical_expr.tree f) (fault_in (outcome_on (sort_plan s).tree f)) (no_sort_fault s.physical_expr.tree s.options f);
   sizes = λ fs. omega arith;
 }

@@ -21,7 +21,7 @@ use Rattle.px_tree.specs.declared.context.Context.TheVariants.{Default}
 use Rattle.px_answers.specs.Parts.{PlannedSortBy, plan_trees, sort_by_plan}
 use Rattle.px_answers.specs.Value.{AreCellsOf, IsCause, IsCauseOfAny, IsCellOf, IsOneOf, IsValue, causes_on}
 use Rattle.px_answers.proofs.Cells.{cell_is_value}
-use Rattle.px_answers.proofs.Inputs.{IsAnswer, IsNode, all_faults_apart, all_leaves_apart, all_refusals_apart}
+use Rattle.px_answers.proofs.Inputs.{IsAnswer, IsNode, all_faults_apart, all_refusals_apart}
 use Rattle.px_answers.proofs.Plain.{is_plain}
 use Rattle.px_answers.proofs.Applied.{invalid_cause, shape_cause, spread_refused}
 use Rattle.px_answers.proofs.InputLists.{AreInputs, among_right, cause_of_first, cause_of_inputs, cause_of_others, inputs_of}
@@ -146,7 +146,6 @@ pub sort_by_node : (s : PlannedSortBy) (f : Frame) → IsNode (sort_by_plan s) (
 sort_by_node s f = record {
   refusals = λ place. ap (λ rs. or_first rs (own_refusals (sort_by_plan s).tree (scope_of f) place)) (all_refusals_apart (scope_of f) place (s.input ∷ s.by));
   columns = refl;
-  leaves = all_leaves_apart (s.input ∷ s.by);
   faults = ap (λ es. es ++ fault_in (outcome_on (sort_by_plan s).tree f)) (all_faults_apart f (s.input ∷ s.by));
   sizes = λ fs. omega arith;
 }
@@ -154,7 +153,7 @@ sort_by_node s f = record {
 -- a cause of the rows, or of a key, is the sort's
 all_cause : (e : PxError) (s : PlannedSortBy) (f : Frame) → IsCauseOfAny e (s.input ∷ s.by) f → IsCause e (sort_by_plan s) f
 all_cause e s f h =
-    cause_of_inputs e (s.input ∷ s.by) (sort_by_plan s) f (own_refusals (sort_by_plan s).tree (scope_of f) Default) (fault_in (outcome_on (sort_by_plan s).tree f)) refl refl refl refl
+    cause_of_inputs e (s.input ∷ s.by) (sort_by_plan s) f (own_refusals (sort_by_plan s).tree (scope_of f) Default) (fault_in (outcome_on (sort_by_plan s).tree f)) refl refl refl
     (λ (b : 2 ^ 32 ≤ sizes_on (plan_trees (s.input ∷ s.by)) (f ∷ [])). omega (arith, b)) h
 
 pub sort_by_input_cause : (e : PxError) (s : PlannedSortBy) (f : Frame) → IsCause e s.input f → IsCause e (sort_by_plan s) f

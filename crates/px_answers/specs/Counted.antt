@@ -1,9 +1,9 @@
--- How often kernels ran while expressions were evaluated.
+-- How often kernels ran, and rows were grouped, while expressions were evaluated.
 use Rattle.std.specs.Prelude.{◌≡◌, ℕ, ◌+◌, ◌≤◌, true, List, Option, IfSome, option_map, sum, if◌then◌else◌}
 use Rattle.std.specs.List.{sum_by}
 use Rattle.px_column.specs.Option.{each}
 use Rattle.px_frame.specs.External.{Frame}
-use Rattle.px_tree.specs.Cost.{is_flat, are_flat_rows, ticks_of, all_ticks_of, cost_on}
+use Rattle.px_tree.specs.Cost.{is_flat, are_flat_rows, ticks_of, all_ticks_of, cost_on, windows_in, all_windows_in}
 use Rattle.px_tree.specs.Nodes.{all_nodes_of}
 use Rattle.px_tree.specs.Tree.{Tree, Trees}
 use Rattle.px_answers.specs.Planned.{Planned}
@@ -40,3 +40,13 @@ flat_kernels e = if is_flat e then ticks_of e else 0
 -- a count rose at least by the kernels of the flat ones among some expressions
 abbrev pub RunAllAtLeast : List Planned → ℕ → ℕ → Type 0
 RunAllAtLeast ps old new = old + sum_by (λ p. flat_kernels p.tree) ps ≤ new
+
+-- a count never fell, and rose by no more than the windows of an expression, for each of which rows are grouped
+pub record GroupedAtMost (e : Tree) (old new : ℕ) : Type 0 where
+  pub rises : old ≤ new
+  pub most : new ≤ old + windows_in e
+
+-- the same of some expressions
+pub record GroupedAllAtMost (es : Trees) (old new : ℕ) : Type 0 where
+  pub rises : old ≤ new
+  pub most : new ≤ old + all_windows_in es

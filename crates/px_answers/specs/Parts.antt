@@ -1,7 +1,7 @@
 -- What contracts see of a node with inputs: these, and what else it holds.
-use Rattle.std.specs.Prelude.{ℕ, Bool, List, ◌++◌, Option, map, refl}
+use Rattle.std.specs.Prelude.{ℕ, Bool, List, [], ◌++◌, Option, Some, None, map, refl}
 use Rattle.std.specs.List.{flat_map}
-use Rattle.std.specs.Coded.{Coded, code_by, coded×, coded_bool, coded_list, coded_option}
+use Rattle.std.specs.Coded.{Coded, code_by, coded×, coded_ℕ, coded_bool, coded_list, coded_option}
 use Rattle.px_column.specs.Kind.{coded_kind}
 use Rattle.px_column.specs.Prelude.{Kind}
 use Rattle.px_value.specs.declared.cast_options.CastOptions.{CastOptions}
@@ -15,8 +15,10 @@ use Rattle.px_value.specs.contracts.operator.Operator as operator
 use Rattle.px_value.specs.contracts.sort_options.SortMultipleOptions as sort_multiple_options
 use Rattle.px_value.specs.contracts.sort_options.SortOptions as sort_options
 use Rattle.px_frame.specs.Schema.{FieldKind, coded_field}
-use Rattle.px_tree.specs.Tree.{Tree, Call, Trees, trees_of, alias, binary, ternary, cast, function, filter, slice, gather, sort, sort_by, agg, as_explode}
+use Rattle.px_tree.specs.Tree.{Tree, Call, Trees, Order, trees_of, no_order, ordered, alias, binary, ternary, cast, function, filter, slice, gather, sort, sort_by, agg, window, as_explode}
 use Rattle.px_tree.specs.TreeCode.{coded_call}
+use Rattle.px_tree.specs.contracts.window.WindowMapping as window_mapping
+use Rattle.px_tree.specs.declared.window.WindowMapping.{WindowMapping}
 use Rattle.px_answers.specs.Planned.{Planned, PlannedColumn, coded_planned}
 
 -- an operator on two nodes, and whether one of them is a literal
@@ -79,6 +81,15 @@ pub record PlannedReduction : Type 0 where
   pub method : GroupByMethod
   pub field : Option FieldKind
 
+-- a function of the parts of the rows by some nodes, each part in the order of another; the result's name, where it is another than
+-- the function's; and where what the function has for each part stands
+pub record PlannedWindow : Type 0 where
+  pub group_by : List Planned
+  pub order_by : Option (Planned × SortOptions)
+  pub out_name : Option (List ℕ)
+  pub phys_function : Planned
+  pub mapping : WindowMapping
+
 -- how a function stands in an expression
 abbrev pub call_in : Tree → Call
 call_in (function es c) = c
@@ -118,6 +129,9 @@ coded_sort_by = code_by (Planned × (List Planned × SortMultipleOptions)) (code
 
 abbrev pub coded_reduction : Coded PlannedReduction
 coded_reduction = code_by (Planned × (GroupByMethod × Option FieldKind)) (coded× coded_planned (coded× method.the_row.coded (coded_option coded_field))) (λ r. (r.input, (r.method, r.field))) (λ p. record { input = p.0; method = p.1.0; field = p.1.1 }) (λ _. refl)
+
+abbrev pub coded_window : Coded PlannedWindow
+coded_window = code_by (List Planned × (Option (Planned × SortOptions) × (Option (List ℕ) × (Planned × WindowMapping)))) (coded× (coded_list coded_planned) (coded× (coded_option (coded× coded_planned sort_options.the_row.coded)) (coded× (coded_option (coded_list coded_ℕ)) (coded× coded_planned window_mapping.the_row.coded)))) (λ w. (w.group_by, (w.order_by, (w.out_name, (w.phys_function, w.mapping))))) (λ p. record { group_by = p.0; order_by = p.1.0; out_name = p.1.1.0; phys_function = p.1.1.1.0; mapping = p.1.1.1.1 }) (λ _. refl)
 
 -- the trees of some nodes
 abbrev pub plan_trees : List Planned → Trees
@@ -161,3 +175,24 @@ sort_by_plan s = record { tree = sort_by s.input.tree (plan_trees s.by) s.sort_o
 
 abbrev pub reduction_plan : PlannedReduction → Planned
 reduction_plan r = record { tree = agg r.method r.input.tree; columns = r.input.columns }
+
+-- an expression under the name that it is given, if any
+abbrev pub under : Option (List ℕ) → Tree → Tree
+under None e = e
+under (Some n) e = alias e n
+
+-- what rows are ordered by, as an expression
+abbrev pub plan_order : Option (Planned × SortOptions) → Order
+plan_order None = no_order
+plan_order (Some o) = ordered o.0.tree o.1
+
+-- the column nodes in what rows are ordered by
+abbrev pub order_columns : Option (Planned × SortOptions) → List PlannedColumn
+order_columns None = []
+order_columns (Some o) = o.0.columns
+
+abbrev pub window_plan : PlannedWindow → Planned
+window_plan w = record {
+  tree = window (under w.out_name w.phys_function.tree) (plan_trees w.group_by) (plan_order w.order_by) w.mapping;
+  columns = w.phys_function.columns ++ (plan_columns w.group_by ++ order_columns w.order_by);
+}

@@ -1,6 +1,6 @@
 -- What evaluating a node answers: the value of its expression as a column, or a cause for there being none.
-use Rattle.std.specs.Prelude.{◌≡◌, ◌⊎◌, ◌^◌, ◌≤◌, true, List, [], ◌∷◌, ◌++◌, Option, Some, length, is_none}
-use Rattle.std.specs.List.{flat_map}
+use Rattle.std.specs.Prelude.{◌≡◌, ◌⊎◌, ◌^◌, ◌≤◌, Bool, true, not, ◌&&◌, List, [], ◌∷◌, ◌++◌, Option, Some, Result, Err, length, is_none, ok_or, if◌then◌else◌}
+use Rattle.std.specs.List.{flat_map, list_any}
 use Rattle.px_column.specs.Option.{◌>>=◌}
 use Rattle.px_column.specs.Prelude.{Series}
 use Rattle.px_value.specs.declared.error.PxError.{PxError}
@@ -13,10 +13,10 @@ use Rattle.px_tree.specs.Shape.{is_unit, name_of}
 use Rattle.px_tree.specs.Size.{size_on, sizes_on}
 use Rattle.px_tree.specs.Tree.{Tree}
 use Rattle.px_tree.specs.Typing.{kind_in, refusals_of, refused_where}
-use Rattle.px_tree.specs.Value.{value_on, named, faults_on, has_misfit}
+use Rattle.px_tree.specs.Value.{value_on, named, faults_on, is_misfit}
 use Rattle.px_tree.specs.declared.context.Context.TheVariants.{Default}
 use Rattle.px_answers.specs.Parts.{plan_trees}
-use Rattle.px_answers.specs.Planned.{Planned, PlannedColumn, found_by}
+use Rattle.px_answers.specs.Planned.{Planned, PlannedColumn, found_by, is_added}
 
 -- an expression's value on a frame as a column
 abbrev pub column_on : Tree → Frame → Option Series
@@ -26,13 +26,26 @@ column_on e frame = value_on e frame >>= named e frame >>= λ c. Some (column_of
 abbrev pub unfound_refusal : Frame → PlannedColumn → List PxError
 unfound_refusal frame c = refused_where (is_none (found_by c frame)) (ColumnNotFound c.name)
 
--- why an expression has no value on a frame: it is refused there, a column node finds no column, a column beside the frame
--- has not its height, or there is a fault of a value
+-- a column node finds a column beside the frame that has not the frame's height; a reserved name that its schema lacks is sought
+-- among the frame's own columns alone
+abbrev pub finds_misfit : Frame → PlannedColumn → Bool
+finds_misfit frame c = not (is_added c) && is_misfit frame c.name
+
+-- the column of a column node on a frame, or why it has none
+abbrev pub column_of : PlannedColumn → Frame → Result Series PxError
+column_of c frame = if finds_misfit frame c then Err ShapeMismatch else ok_or (found_by c frame) (ColumnNotFound c.name)
+
+-- one of an expression's column nodes finds such a column
+abbrev pub has_misfit_column : Planned → Frame → Bool
+has_misfit_column p frame = list_any (finds_misfit frame) p.columns
+
+-- why an expression has no value on a frame: it is refused there, a column node finds no column, or one that has not the
+-- frame's height, or there is a fault of a value
 abbrev pub causes_on : Planned → Frame → List PxError
 causes_on p frame =
     refusals_of p.tree (scope_of frame) Default
     ++ flat_map (unfound_refusal frame) p.columns
-    ++ refused_where (has_misfit p.tree frame) ShapeMismatch
+    ++ refused_where (has_misfit_column p frame) ShapeMismatch
     ++ faults_on p.tree frame
 
 -- a column is the value of an expression on a frame: nothing is there that is refused or a fault, it has the expression's

@@ -34,7 +34,7 @@ use fields::{items, two_fields};
 use parsed::Parsed;
 use px_column::PxError;
 use px_frame::DataFrame;
-use px_tree::{Step, are_built};
+use px_tree::{Step, are_unchunked};
 use serde_json::Value;
 use std::alloc::Global;
 use step::read_steps;
@@ -69,7 +69,7 @@ fn read_parts(alloc: Global, value: &Value) -> Result<Parsed, DocumentFault>
     let (columns, steps) = fields.ok_or(DocumentFault::BadDocument)?;
     let columns = read_columns(alloc, items(columns).ok_or(DocumentFault::BadDocument)?)?;
     let steps = read_steps(alloc, items(steps).ok_or(DocumentFault::BadDocument)?)?;
-    if !are_built(&steps) {
+    if !are_unchunked(&steps) {
         return Err(DocumentFault::BadDocument);
     }
     Ok(Parsed { columns, steps })

@@ -7,12 +7,12 @@ use Rattle.px_frame.specs.CellView.{named_cell}
 use Rattle.px_frame.specs.External.{Frame}
 use Rattle.px_frame.specs.Spread.{NamedCell}
 use Rattle.px_frame.specs.declared.cell.Cell.{Cell}
-use Rattle.px_tree.specs.Cost.{all_ticks_of, are_flat_rows, cost_on, is_flat, is_flat_rows, ticks_of}
+use Rattle.px_tree.specs.Cost.{all_ticks_of, all_windows_in, are_flat_rows, cost_on, is_flat, is_flat_rows, ticks_of, windows_in}
 use Rattle.px_tree.specs.Nodes.{all_nodes_of, nodes_of}
 use Rattle.px_tree.specs.Partition.{is_row_function}
 use Rattle.px_tree.specs.Tree.{Call, Tree, Trees, called, function, sort_by}
 use Rattle.px_value.specs.declared.sort_options.SortMultipleOptions.{SortMultipleOptions}
-use Rattle.px_answers.specs.Counted.{RunAllAtLeast, RunAllAtMost, RunAllExactly, RunAtMost, RunExactly, flat_kernels}
+use Rattle.px_answers.specs.Counted.{GroupedAllAtMost, GroupedAtMost, RunAllAtLeast, RunAllAtMost, RunAllExactly, RunAtMost, RunExactly, flat_kernels}
 use Rattle.px_expr.specs.NodeView.{plan_of}
 use Rattle.px_answers.specs.Parts.{plan_trees}
 use Rattle.px_answers.specs.Planned.{Planned}
@@ -121,6 +121,30 @@ cells_done nodes i f cells old now h v =
   where
     closed : EvaluatesFront (map plan_of nodes) [] f (map named_cell cells) old now
     closed = subst (λ (ms : List PhysExpr). EvaluatesFront (map plan_of nodes) (map plan_of ms) f (map named_cell cells) old now) (at_drop_all (λ (ms : List PhysExpr). ms) nodes i h) v
+
+-- how often rows are grouped for nodes from a place on
+abbrev pub windows_from : List PhysExpr → ℕ → ℕ
+windows_from nodes i = all_windows_in (plan_trees (map plan_of (drop i nodes)))
+
+module _ (nodes : List PhysExpr) (i : ℕ) (n : PhysExpr) (below : i < length nodes) (is : n ≡ get_or nodes i n) (old now : ℕ) (so_far : now + windows_from nodes i ≡ old + all_windows_in (plan_trees (map plan_of nodes))) where
+  windows_opened : windows_from nodes i ≡ windows_in (plan_of n).tree + windows_from nodes (i + 1)
+  windows_opened =
+      at_drop_more (λ (ms : List PhysExpr). all_windows_in (plan_trees (map plan_of ms))) nodes i n below ∙ ap (λ (m : PhysExpr). windows_in (plan_of m).tree + windows_from nodes (i + 1)) (sym is)
+
+  pub grouped_next : (new : ℕ) → new ≡ now + windows_in (plan_of n).tree → new + windows_from nodes (i + 1) ≡ old + all_windows_in (plan_trees (map plan_of nodes))
+  grouped_next new h = omega (arith, h, so_far, windows_opened)
+
+  pub grouped_here : (new : ℕ) → old ≤ now → GroupedAtMost (plan_of n).tree now new → GroupedAllAtMost (plan_trees (map plan_of nodes)) old new
+  grouped_here new r h = record { rises = omega (arith, r, h.rises); most = omega (arith, h.most, so_far, windows_opened) }
+
+-- and of all of them
+pub grouped_end : (nodes : List PhysExpr) (i : ℕ) → length nodes ≤ i → (old now : ℕ) → now + windows_from nodes i ≡ old + all_windows_in (plan_trees (map plan_of nodes)) → now ≡ old + all_windows_in (plan_trees (map plan_of nodes))
+grouped_end nodes i end old now h =
+    let none : windows_from nodes i ≡ 0 = at_drop_all (λ (ms : List PhysExpr). all_windows_in (plan_trees (map plan_of ms))) nodes i end in
+    omega (arith, h, none)
+
+pub grouped_all : (ts : Trees) (old now : ℕ) → now ≡ old + all_windows_in ts → GroupedAllAtMost ts old now
+grouped_all ts old now h = record { rises = omega (arith, h); most = omega (arith, h) }
 
 -- the kernels of a function of some expressions
 pub apply_ticks : (es : Trees) (call : Call) (old mid new : ℕ) → RunAllExactly es old mid → (is_row_function (called call) ≡ true → new ≡ mid + 1) → RunExactly (function es call) old new

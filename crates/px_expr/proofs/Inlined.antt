@@ -18,7 +18,7 @@ use Rattle.px_tree.specs.Shape.{is_unit}
 use Rattle.px_tree.specs.Size.{size_on, sizes_on}
 use Rattle.px_tree.specs.Tree.{Tree, Trees, Literal, single, range, series, literal, alias, cast, function, called}
 use Rattle.px_tree.specs.Typing.{refusals_of, all_refusals_of, refused_where, own_refusals}
-use Rattle.px_tree.specs.Value.{value_on, faults_on, all_faults_on, is_misfit, outcome_on, fault_in, made}
+use Rattle.px_tree.specs.Value.{value_on, faults_on, all_faults_on, outcome_on, fault_in, made}
 use Rattle.px_tree.specs.declared.context.Context.TheVariants.{Default}
 use Rattle.px_answers.proofs.Applied.{apply_value, apply_lacks}
 use Rattle.px_answers.proofs.Cells.{unit_cell_of}
@@ -32,15 +32,10 @@ use Rattle.px_answers.specs.Planned.{Planned, PlannedColumn}
 use Rattle.px_answers.specs.Value.{AreCellsOf, IsCellOf, IsOneOf, IsValue, causes_on}
 use Rattle.px_expr.specs.declared.phys_expr.PhysExpr.{PhysExpr}
 
--- no column stands beside the frame without columns
-no_misfit : (names : List (List ℕ)) → list_any (is_misfit no_frame) names ≡ false
-no_misfit [] = refl
-no_misfit (n ∷ names) = no_misfit names
-
 -- without refusals and faults there is no cause
 no_cause : (e : PxError) (t : Tree) → refusals_of t [] Default ≡ [] → faults_on t no_frame ≡ [] → IsOneOf e (causes_on (bare t) no_frame) → ⊥
 no_cause e t r f h =
-    let none : causes_on (bare t) no_frame ≡ [] = λ i. ((r i ++ []) ++ refused_where (no_misfit (leaf_names t) i) ShapeMismatch) ++ f i in
+    let none : causes_on (bare t) no_frame ≡ [] = λ i. ((r i ++ []) ++ []) ++ f i in
     subst (IsOneOf e) none h
 
 -- a refusal, a fault or a size leaves nothing

@@ -1,11 +1,12 @@
 -- Nodes over nodes that were planned over one schema.
-use Rattle.std.proofs.Common.{◌≡◌, ℕ, List, ◌++◌, Result, Ok, map, refl, sym, ◌∙◌, ap, subst}
+use Rattle.std.proofs.Common.{◌≡◌, ℕ, List, ◌++◌, Option, Some, None, Result, Ok, map, refl, sym, ◌∙◌, ap, subst}
 use Rattle.std.proofs.lemmas.List.{map-append}
 use Rattle.px_column.specs.Prelude.{Answers, AnswersBy}
 use Rattle.px_value.specs.declared.error.PxError.{PxError}
 use Rattle.px_value.specs.declared.sort_options.SortMultipleOptions.{SortMultipleOptions}
-use Rattle.px_tree.specs.Nodes.{leaf_names, all_leaf_names}
-use Rattle.px_tree.specs.Tree.{Tree, Trees, Call, no_trees, one_tree, function, by_name, sort_by}
+use Rattle.px_value.specs.declared.sort_options.SortOptions.{SortOptions}
+use Rattle.px_tree.specs.Nodes.{leaf_names, all_leaf_names, order_leaf_names}
+use Rattle.px_tree.specs.Tree.{Tree, Trees, Order, Call, no_trees, one_tree, no_order, ordered, function, by_name, sort_by, window}
 use Rattle.px_tree.specs.Typing.{Scope}
 use Rattle.px_tree.specs.View.{tree, trees, agg_step, tree_step, trees_step}
 use Rattle.px_tree.specs.declared.expr.AggExpr.TheOpen.{Expr-F}
@@ -13,8 +14,9 @@ use Rattle.px_tree.specs.declared.expr.Expr.{fold-roll-Expr}
 use Rattle.px_tree.specs.declared.expr.Expr.TheVariants.{Function, rolls-Function}
 use Rattle.px_tree.specs.declared.expr.Exprs.{Exprs}
 use Rattle.px_tree.specs.declared.function.FunctionExpr.{FunctionExpr}
-use Rattle.px_answers.specs.Parts.{call_in, call_on, plan_columns, plan_trees}
-use Rattle.px_expr.specs.Plan.{planned_over, all_planned_over}
+use Rattle.px_tree.specs.declared.window.WindowMapping.{WindowMapping}
+use Rattle.px_answers.specs.Parts.{call_in, call_on, order_columns, plan_columns, plan_order, plan_trees}
+use Rattle.px_expr.specs.Plan.{planned_over, all_planned_over, order_planned_over}
 use Rattle.px_answers.specs.Planned.{Planned, PlannedColumn}
 
 -- a column node of a name
@@ -93,6 +95,32 @@ pub one_and_list_over : {X : Type 0} (view : X → Planned) (r : Result X PxErro
 one_and_list_over view r scope t a ts p ps named first planned answer =
     answer_over view r scope t (leaf_names a ++ all_leaf_names ts) (p.columns ++ plan_columns ps) named
     (columns_joined scope p.columns (plan_columns ps) (leaf_names a) (all_leaf_names ts) (columns_of_one scope a p first) (columns_of_all scope ts ps planned)) answer
+
+-- the column nodes of what rows are ordered by
+columns_of_order : (scope : Scope) (o : Order) (p : Option (Planned × SortOptions)) → Answers (Ok p) (Ok (order_planned_over scope o)) → order_columns p ≡ columns_over scope (order_leaf_names o)
+columns_of_order scope no_order p h = ap order_columns (sym (opened p None h))
+columns_of_order scope (ordered t options) p h = ap order_columns (sym (opened p (Some (planned_over scope t, options)) h))
+
+-- and their expression
+order_of_planned : (scope : Scope) (o : Order) (p : Option (Planned × SortOptions)) → Answers (Ok p) (Ok (order_planned_over scope o)) → o ≡ plan_order p
+order_of_planned scope no_order p h = ap plan_order (opened p None h)
+order_of_planned scope (ordered t options) p h = ap plan_order (opened p (Some (planned_over scope t, options)) h)
+
+-- a window of a function by keys, in an order
+pub window_over : {X : Type 0} (view : X → Planned) (r : Result X PxError) (scope : Scope) (t f : Tree) (ts : Trees) (o : Order) (p : Planned) (ps : List Planned) (q : Option (Planned × SortOptions))
+    → leaf_names t ≡ leaf_names f ++ (all_leaf_names ts ++ order_leaf_names o) → Answers (Ok p) (Ok (planned_over scope f)) → Answers (Ok ps) (Ok (all_planned_over scope ts)) → Answers (Ok q) (Ok (order_planned_over scope o))
+    → AnswersBy view r (Ok (with_columns t (p.columns ++ (plan_columns ps ++ order_columns q)))) → AnswersBy view r (Ok (planned_over scope t))
+window_over view r scope t f ts o p ps q named first keys order answer =
+    answer_over view r scope t (leaf_names f ++ (all_leaf_names ts ++ order_leaf_names o)) (p.columns ++ (plan_columns ps ++ order_columns q)) named
+    (columns_joined scope p.columns (plan_columns ps ++ order_columns q) (leaf_names f) (all_leaf_names ts ++ order_leaf_names o) (columns_of_one scope f p first)
+    (columns_joined scope (plan_columns ps) (order_columns q) (all_leaf_names ts) (order_leaf_names o) (columns_of_all scope ts ps keys) (columns_of_order scope o q order))) answer
+
+-- the expression of a window of nodes
+pub window_tree_over : (scope : Scope) (t f : Tree) (ts : Trees) (o : Order) (mapping : WindowMapping) (p : Planned) (ps : List Planned) (q : Option (Planned × SortOptions)) → t ≡ window f ts o mapping
+    → Answers (Ok p) (Ok (planned_over scope f)) → Answers (Ok ps) (Ok (all_planned_over scope ts)) → Answers (Ok q) (Ok (order_planned_over scope o)) → t ≡ window p.tree (plan_trees ps) (plan_order q) mapping
+window_tree_over scope t f ts o mapping p ps q shape first keys order =
+    let function : f ≡ p.tree = ap (λ (x : Planned). x.tree) (opened p (planned_over scope f) first) in
+    shape ∙ (λ i. window (function i) (trees_of_all scope ts ps keys i) (order_of_planned scope o q order i) mapping)
 
 -- the expression of a function of nodes
 pub call_over : (scope : Scope) (t : Tree) (ts : Trees) (k : Call) (ps : List Planned) → t ≡ call_on ts k → Answers (Ok ps) (Ok (all_planned_over scope ts)) → t ≡ call_on (plan_trees ps) (call_in t)

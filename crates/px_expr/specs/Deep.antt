@@ -1,16 +1,19 @@
 -- A node's children are smaller than the node.
-use Rattle.std.specs.Prelude.{⊤, ◌≡◌, ◌+◌, ◌≤◌, List, [], ◌∷◌, map}
+use Rattle.std.specs.Prelude.{⊤, ◌≡◌, ℕ, ◌+◌, ◌≤◌, List, [], ◌∷◌, Option, Some, None, map}
 use Rattle.std.proofs.Common.{arith}
+use Rattle.std.specs.declared.alloc.Global.{Global}
+use Rattle.std.specs.declared.boxed.Box.{Box}
+use Rattle.px_value.specs.declared.sort_options.SortOptions.{SortOptions}
 use denote.Param.Weighed.{most}
-use Rattle.px_tree.specs.Nodes.{nodes_of, all_nodes_of}
+use Rattle.px_tree.specs.Nodes.{nodes_of, all_nodes_of, order_nodes_of}
 use Rattle.px_column.specs.Prelude.{kind_of}
 use Rattle.px_tree.specs.Shape.{is_unit}
-use Rattle.px_tree.specs.Tree.{called, binary, ternary, cast, function, filter, slice, gather, sort, sort_by}
+use Rattle.px_tree.specs.Tree.{Tree, called, binary, ternary, cast, function, filter, slice, gather, sort, sort_by, window}
 use Rattle.px_tree.specs.View.{tree}
-use Rattle.px_expr.specs.NodeView.{plan_of}
-use Rattle.px_answers.specs.Parts.{call_in, plan_trees}
+use Rattle.px_expr.specs.NodeView.{order_of, plan_of}
+use Rattle.px_answers.specs.Parts.{call_in, plan_order, plan_trees, under}
 use Rattle.px_expr.specs.declared.phys_expr.PhysExpr.{PhysExpr}
-use Rattle.px_expr.specs.declared.phys_expr.PhysExpr.TheVariants.{Column, Literal, Alias, Binary, Ternary, Cast, Apply, Filter, Slice, Gather, Sort, SortBy, Aggregation, Count}
+use Rattle.px_expr.specs.declared.phys_expr.PhysExpr.TheVariants.{Column, Literal, Alias, Binary, Ternary, Cast, Apply, Filter, Slice, Gather, Sort, SortBy, Aggregation, Count, Window}
 use Rattle.px_expr.specs.declared.alias.AliasExpr.TheInside.{Inside as AliasInside}
 use Rattle.px_expr.specs.declared.binary.BinaryExpr.TheInside.{Inside as BinaryInside}
 use Rattle.px_expr.specs.declared.ternary.TernaryExpr.TheInside.{Inside as TernaryInside}
@@ -22,7 +25,8 @@ use Rattle.px_expr.specs.declared.gather.GatherExpr.TheInside.{Inside as GatherI
 use Rattle.px_expr.specs.declared.sort.SortExpr.TheInside.{Inside as SortInside}
 use Rattle.px_expr.specs.declared.sort_by.SortByExpr.TheInside.{Inside as SortByInside}
 use Rattle.px_expr.specs.declared.aggregation.AggregationExpr.TheInside.{Inside as AggregationInside}
-use Rattle.px_expr.specs.declared.aggregation.AggregationExpr.TheDeep.{deep-PhysExpr, deep-AliasExpr, deep-BinaryExpr, deep-TernaryExpr, deep-CastExpr, deep-ApplyExpr, deep-FilterExpr, deep-SliceExpr, deep-GatherExpr, deep-SortExpr, deep-SortByExpr, deep-AggregationExpr}
+use Rattle.px_expr.specs.declared.window.WindowExpr.TheInside.{Inside as WindowInside}
+use Rattle.px_expr.specs.declared.aggregation.AggregationExpr.TheDeep.{deep-PhysExpr, deep-AliasExpr, deep-BinaryExpr, deep-TernaryExpr, deep-CastExpr, deep-ApplyExpr, deep-FilterExpr, deep-SliceExpr, deep-GatherExpr, deep-SortExpr, deep-SortByExpr, deep-AggregationExpr, deep-WindowExpr}
 
 -- a node is no deeper than its expression has nodes
 pub deep_le : (p : PhysExpr) → deep-PhysExpr p ≤ nodes_of (plan_of p).tree + 1
@@ -40,6 +44,7 @@ deep_le (Sort e) = omega arith
 deep_le (SortBy e) = omega arith
 deep_le (Aggregation e) = omega arith
 deep_le (Count e) = omega arith
+deep_le (Window e) = omega arith
 
 -- nor is any of some nodes
 pub most_le : (ps : List PhysExpr) → most deep-PhysExpr ps ≤ all_nodes_of (plan_trees (map plan_of ps)) + 1
@@ -79,3 +84,16 @@ falls_sort_by a h = omega (arith, deep_le a.input.value, most_le a.by.items)
 
 pub falls_reduction : (a : AggregationInside) → ⊤ → deep-AggregationExpr a ≤ nodes_of (plan_of a.expr.value).tree + 1
 falls_reduction a h = omega (arith, deep_le a.expr.value)
+
+-- an expression has no fewer nodes under a name
+under_le : (n : Option (List ℕ)) (t : Tree) → nodes_of t ≤ nodes_of (under n t)
+under_le None t = omega arith
+under_le (Some n) t = omega arith
+
+pub falls_window : (a : WindowInside) → (tree a.expr ≡ window (under a.out_name (plan_of a.phys_function.value).tree) (plan_trees (map plan_of a.group_by.items)) (plan_order (order_of a.order_by)) a.mapping) × (tree a.function ≡ (plan_of a.phys_function.value).tree)
+    → deep-WindowExpr a ≤ nodes_of (under a.out_name (plan_of a.phys_function.value).tree) + all_nodes_of (plan_trees (map plan_of a.group_by.items)) + order_nodes_of (plan_order (order_of a.order_by)) + 1
+falls_window a h = by a.order_by
+  where
+    by : (o : Option (Box PhysExpr Global × SortOptions)) → deep-WindowExpr (record a { order_by = o }) ≤ nodes_of (under a.out_name (plan_of a.phys_function.value).tree) + all_nodes_of (plan_trees (map plan_of a.group_by.items)) + order_nodes_of (plan_order (order_of o)) + 1
+    by None = omega (arith, most_le a.group_by.items, deep_le a.phys_function.value, under_le a.out_name (plan_of a.phys_function.value).tree)
+    by (Some o) = omega (arith, most_le a.group_by.items, deep_le a.phys_function.value, under_le a.out_name (plan_of a.phys_function.value).tree, deep_le o.0.value)

@@ -1,24 +1,22 @@
 -- What the planner makes of an expression.
-use Rattle.std.specs.Prelude.{◌≡◌, ℕ, ◌+◌, ◌<◌, true, ◌||◌, List, [], ◌∷◌, Option, Some, None, Result, Ok, length, map, fold, take}
+use Rattle.std.specs.Prelude.{◌≡◌, ℕ, ◌+◌, ◌<◌, ◌||◌, List, [], ◌∷◌, Option, Some, None, Result, Ok, length, map, fold, take}
 use Rattle.px_column.specs.Prelude.{Refuses}
 use Rattle.px_column.specs.Result.{◌>>=◌}
 use Rattle.px_value.specs.declared.error.PxError.{PxError}
+use Rattle.px_value.specs.declared.sort_options.SortOptions.{SortOptions}
 use Rattle.px_arena.specs.Arena.{tree_at}
 use Rattle.px_arena.specs.Named.{NamedNode}
 use Rattle.px_tree.specs.Nodes.{leaf_names}
-use Rattle.px_tree.specs.Tree.{Tree, Trees, no_trees, one_tree, alias}
+use Rattle.px_tree.specs.Tree.{Tree, Trees, Order, no_trees, one_tree, no_order, ordered}
 use Rattle.px_tree.specs.Typing.{Scope, type_of}
 use Rattle.px_tree.specs.declared.context.Context.{Context}
-use Rattle.px_tree.specs.Built.{is_built_tree}
 use Rattle.px_tree.specs.Shape.{has_window}
 use Rattle.px_expr.specs.Depth.{is_too_deep}
+use Rattle.px_answers.specs.Parts.{under}
 use Rattle.px_answers.specs.Planned.{Planned}
+use Rattle.px_expr.specs.NodeView.{plan_of}
+use Rattle.px_expr.specs.declared.planner.nodes.PlannedFunction.{PlannedFunction}
 use Rattle.px_expr.specs.declared.conversion.ExpressionConversionState.{ExpressionConversionState}
-
--- an expression under the name that it is given, if any
-abbrev pub under : Option (List ℕ) → Tree → Tree
-under None e = e
-under (Some n) e = alias e n
 
 -- an expression whose column nodes were all planned over one schema
 abbrev pub planned_over : Scope → Tree → Planned
@@ -29,6 +27,15 @@ abbrev pub all_planned_over : Scope → Trees → List Planned
 all_planned_over scope no_trees = []
 all_planned_over scope (one_tree t ts) = planned_over scope t ∷ all_planned_over scope ts
 
+-- what rows are ordered by, if by any, whose column nodes were all planned over one schema
+abbrev pub order_planned_over : Scope → Order → Option (Planned × SortOptions)
+order_planned_over scope no_order = None
+order_planned_over scope (ordered t options) = Some (planned_over scope t, options)
+
+-- the node of a window's function, under the name of the window's result where one is given
+abbrev pub function_of : PlannedFunction → Planned
+function_of p = record (plan_of p.node) { tree = under p.out_name (plan_of p.node).tree }
+
 -- the node of an expression, under a name if any, where it is not refused over the schema in its place
 abbrev pub plan_in : Option (List ℕ) → Tree → Scope → Context → Result Planned PxError
 plan_in name e scope place = type_of e scope place >>= λ k. Ok (planned_over scope (under name e))
@@ -37,9 +44,9 @@ plan_in name e scope place = type_of e scope place >>= λ k. Ok (planned_over sc
 abbrev pub noted : Tree → ExpressionConversionState → ExpressionConversionState
 noted e s = record s { has_windows = s.has_windows || has_window e; too_deep = s.too_deep || is_too_deep s.depth_limit e }
 
--- a node that an arena has, of an expression that has nodes
+-- a node that an arena has
 abbrev pub IsPlannable : List Tree → NamedNode → Type 0
-IsPlannable ts e = (e.node.0 < length ts) × (is_built_tree (tree_at ts e.node) ≡ true)
+IsPlannable ts e = e.node.0 < length ts
 
 -- the node of an expression in an arena
 abbrev pub plan_at : List Tree → Scope → Context → NamedNode → Result Planned PxError

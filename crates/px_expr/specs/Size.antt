@@ -1,7 +1,7 @@
 -- The measure by which the calls of a node's children end.
 use Rattle.std.specs.Prelude.{ℕ}
 use Rattle.px_tree.specs.Nodes.{nodes_of}
-use Rattle.px_answers.specs.Parts.{PlannedBinary, PlannedTernary, PlannedCast, PlannedApply, PlannedFilter, PlannedSlice, PlannedGather, PlannedSort, PlannedSortBy, PlannedReduction, binary_plan, ternary_plan, cast_plan, apply_plan, filter_plan, slice_plan, gather_plan, sort_plan, sort_by_plan, reduction_plan}
+use Rattle.px_answers.specs.Parts.{PlannedBinary, PlannedTernary, PlannedCast, PlannedApply, PlannedFilter, PlannedSlice, PlannedGather, PlannedSort, PlannedSortBy, PlannedReduction, PlannedWindow, binary_plan, ternary_plan, cast_plan, apply_plan, filter_plan, slice_plan, gather_plan, sort_plan, sort_by_plan, reduction_plan, window_plan}
 use Rattle.px_answers.specs.Planned.{Planned}
 
 -- the number of nodes of an expression
@@ -38,3 +38,6 @@ sort_by_size p = plan_size (sort_by_plan p)
 
 abbrev pub reduction_size : PlannedReduction → ℕ
 reduction_size p = plan_size (reduction_plan p)
+
+abbrev pub window_size : PlannedWindow → ℕ
+window_size p = plan_size (window_plan p)

@@ -1,11 +1,15 @@
 //! The column of a name.
-ghost use Rattle.std.specs.Prelude.{◌≡◌, [], ◌∷◌, IfSome, Some, drop, length, option_map};
+ghost use Rattle.std.specs.Prelude.{◌≡◌, [], ◌∷◌, IfOk, IfSome, Some, None, drop, length, option_map};
+ghost use Rattle.std.specs.List.{flat_map};
+ghost use Rattle.px_column.specs.Prelude.{Answers};
 ghost use Rattle.px_tree.specs.Shape.{has_implode, is_literal_tree, name_of};
 ghost use Rattle.px_tree.specs.Tree.{column};
 ghost use Rattle.px_tree.specs.View.{tree};
 ghost use Rattle.px_frame.specs.External.{alone};
 ghost use Rattle.px_frame.specs.Frame.{height_of, look};
 ghost use Rattle.px_answers.specs.Planned.{found_by, is_added, is_reserved};
+ghost use Rattle.px_answers.specs.Value.{column_of};
+ghost use Rattle.px_window.specs.State.{beside};
 
 use crate::physical::PhysicalExpr;
 use indexmap::IndexSet;
@@ -58,7 +62,48 @@ pub fn found_column<'a>(df: &'a DataFrame, name: &Name, schema: &Schema) -> Opti
     }
 }
 
-/// The column of a name (polars `ColumnExpr`).
+/// The first column of a name in some frames.
+fn column_among<'a>(frames: &'a [DataFrame], name: &Name) -> Option<&'a Column>
+    ensures { option_map (λ c. c.now) result ≡ look name.now (flat_map (λ f. f) frames.now) }
+{
+    for frame in frames {
+        if let Some(column) = frame.column(name) {
+            return Some(column);
+        }
+    }
+    None
+}
+
+/// A copy of what a node of this name finds beside the frame, where it finds none of the frame's columns:
+/// the first column of the name in the state's external frames. `ShapeMismatch` where that has not the
+/// frame's height, `ColumnNotFound` where there is none, and for a reserved name that the schema lacks.
+fn external_column(
+    alloc: Global,
+    df: &DataFrame,
+    state: &ExecutionState,
+    name: &Name,
+    schema: &Schema,
+) -> Px<Column>
+    requires { found_by (record { name = name.now; schema = schema.now }) (alone df.now) ≡ None }
+    ensures column { Answers result (column_of (record { name = name.now; schema = schema.now }) (beside df.now state.now)) }
+    ensures height { IfOk result (λ c. length c.slots ≡ height_of df.now) }
+{
+    if is_added(name, schema) {
+        return Err(PxError::ColumnNotFound(name.try_clone(alloc)?));
+    }
+    match column_among(&state.ext_contexts, name) {
+        None => Err(PxError::ColumnNotFound(name.try_clone(alloc)?)),
+        Some(column) => {
+            if column.len() == df.height() {
+                column.try_clone(alloc)
+            } else {
+                Err(PxError::ShapeMismatch)
+            }
+        }
+    }
+}
+
+/// The column of a name, the frame's or else one beside it (polars `ColumnExpr`).
 #[derive(Drop)]
 pub struct ColumnExpr {
     name: Name,
@@ -147,7 +192,7 @@ impl PhysicalExpr for ColumnExpr {
     ) -> Px<Column> {
         match found_column(df, &self.name, &self.schema) {
             Some(column) => column.try_clone(alloc),
-            None => Err(PxError::ColumnNotFound(self.name.try_clone(alloc)?)),
+            None => external_column(alloc, df, state, &self.name, &self.schema),
         }
     }
 
@@ -161,13 +206,20 @@ impl PhysicalExpr for ColumnExpr {
         kernels: &mut Steps<L>,
         groupings: &mut Steps<M>,
     ) -> Px<AggregationContext<'a>> {
+        // The rows of each group are below the height.
+        let _ = groups.len();
         match found_column(df, &self.name, &self.schema) {
             Some(column) => {
                 let column = ColRef::Borrowed(column);
                 let groups = GroupsRef::Borrowed(groups);
                 Ok(AggregationContext::new(column, groups, false))
             }
-            None => Err(PxError::ColumnNotFound(self.name.try_clone(alloc)?)),
+            None => {
+                let column = external_column(alloc, df, state, &self.name, &self.schema)?;
+                let column = ColRef::Owned(column);
+                let groups = GroupsRef::Borrowed(groups);
+                Ok(AggregationContext::new(column, groups, false))
+            }
         }
     }
 

@@ -1,6 +1,5 @@
 //! What nodes on groups are tested for, and the contexts of some nodes.
 ghost use Rattle.std.specs.Prelude.{◌≡◌, ◌||◌, ◌++◌, ◌<◌, IfOk, IfErr, OnOk, length, map};
-ghost use Rattle.px_frame.specs.External.{alone};
 ghost use Rattle.px_frame.specs.Frame.{height_of};
 ghost use Rattle.px_tree.specs.Shape.{has_implode, have_implode};
 ghost use Rattle.px_tree.specs.Typing.{first_scalar_refusal, grouped_function_refusals, grouped_reduction_refusals, implode_refusal, is_one_input_missing, scalar_refusal};
@@ -10,6 +9,7 @@ ghost use Rattle.px_group_answers.specs.Accepts.{Accepts, input_refusals, takes_
 ghost use Rattle.px_group_answers.specs.Counted.{RunAllOnGroups};
 ghost use Rattle.px_group_answers.specs.OnGroups.{AreContextsOf, IsGroupCauseOfAny};
 ghost use Rattle.px_expr.specs.NodeView.{plan_of};
+ghost use Rattle.px_window.specs.State.{beside};
 
 use crate::phys_expr::{PhysExpr, has_literals_alone};
 use crate::physical::PhysicalExpr;
@@ -34,8 +34,8 @@ pub(crate) fn contexts_on_groups<'a, L: Ledger, M: Ledger>(
     groupings: &mut Steps<M>,
 ) -> Px<Vec<AggregationContext<'a>>>
     requires { groups.now.height ≡ height_of df.now }
-    ensures contexts { IfOk result (λ v. AreContextsOf (map plan_of nodes.now) (alone df.now) groups.now v.items) }
-    ensures causes { IfErr result (λ e. IsGroupCauseOfAny e (map plan_of nodes.now) (alone df.now) groups.now) }
+    ensures contexts { IfOk result (λ v. AreContextsOf (map plan_of nodes.now) (beside df.now state.old) groups.now v.items) }
+    ensures causes { IfErr result (λ e. IsGroupCauseOfAny e (map plan_of nodes.now) (beside df.now state.old) groups.now) }
     ensures frame { state.new ≡ state.old }
     ensures grouped { groupings.new ≡ groupings.old }
     ensures ticks { OnOk result (RunAllExactly (plan_trees (map plan_of nodes.now)) kernels.old kernels.new) }
@@ -74,6 +74,7 @@ pub(crate) fn has_implode(node: &PhysExpr) -> bool
             matches!(node.agg_type().groupby, GroupByMethod::Implode) || has_implode(node.expr())
         }
         PhysExpr::Count(node) => node.has_implode(),
+        PhysExpr::Window(node) => node.has_implode(),
     }
 }
 

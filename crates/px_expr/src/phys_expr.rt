@@ -1,10 +1,11 @@
 //! Nodes of any kind.
-ghost use Rattle.std.specs.Prelude.{◌≡◌, map, Ok, IfOk, IfErr, OnOk, OnErr};
+ghost use Rattle.std.specs.Prelude.{◌≡◌, ◌+◌, map, Ok, IfOk, IfErr, OnOk, OnErr};
 ghost use Rattle.px_column.specs.Prelude.{Answers};
 ghost use Rattle.px_frame.specs.CellView.{named_cell};
-ghost use Rattle.px_frame.specs.External.{alone};
+ghost use Rattle.px_tree.specs.Cost.{all_windows_in, windows_in};
 ghost use Rattle.px_tree.specs.Shape.{is_literal_tree, are_literal_trees};
-ghost use Rattle.px_answers.specs.Counted.{RisesAtMost, RunAllAtLeast, RunAllAtMost, RunAllExactly, RunAtMost, RunExactly, costs_on};
+ghost use Rattle.px_window.specs.State.{beside};
+ghost use Rattle.px_answers.specs.Counted.{GroupedAllAtMost, GroupedAtMost, RisesAtMost, RunAllAtLeast, RunAllAtMost, RunAllExactly, RunAtMost, RunExactly, costs_on};
 ghost use Rattle.px_answers.specs.Live.{all_live_names, added, AddsFront};
 ghost use Rattle.px_expr.specs.NodeView.{plan_of};
 ghost use Rattle.px_answers.specs.Parts.{plan_trees};
@@ -25,6 +26,7 @@ use crate::slice::SliceExpr;
 use crate::sort::SortExpr;
 use crate::sort_by::SortByExpr;
 use crate::ternary::TernaryExpr;
+use crate::window::WindowExpr;
 use indexmap::IndexSet;
 use px_column::{Column, Name, Px, Steps};
 use px_context::AggregationContext;
@@ -66,6 +68,8 @@ pub enum PhysExpr {
     Aggregation(AggregationExpr),
     /// The number of rows.
     Count(CountExpr),
+    /// A node's values on the parts of the rows.
+    Window(WindowExpr),
 }
 
 impl PhysicalExpr for PhysExpr {
@@ -89,6 +93,7 @@ impl PhysicalExpr for PhysExpr {
             PhysExpr::SortBy(node) => node.as_expression(),
             PhysExpr::Aggregation(node) => node.as_expression(),
             PhysExpr::Count(node) => node.as_expression(),
+            PhysExpr::Window(node) => node.as_expression(),
         }
     }
 
@@ -116,6 +121,7 @@ impl PhysicalExpr for PhysExpr {
             PhysExpr::SortBy(node) => node.evaluate(alloc, df, state, kernels, groupings),
             PhysExpr::Aggregation(node) => node.evaluate(alloc, df, state, kernels, groupings),
             PhysExpr::Count(node) => node.evaluate(alloc, df, state, kernels, groupings),
+            PhysExpr::Window(node) => node.evaluate(alloc, df, state, kernels, groupings),
         }
     }
 
@@ -172,6 +178,9 @@ impl PhysicalExpr for PhysExpr {
             PhysExpr::Count(node) => {
                 node.evaluate_on_groups(alloc, df, groups, state, kernels, groupings)
             }
+            PhysExpr::Window(node) => {
+                node.evaluate_on_groups(alloc, df, groups, state, kernels, groupings)
+            }
         }
     }
 
@@ -196,6 +205,7 @@ impl PhysicalExpr for PhysExpr {
             PhysExpr::SortBy(node) => node.evaluate_inline_impl(alloc, depth_limit),
             PhysExpr::Aggregation(node) => node.evaluate_inline_impl(alloc, depth_limit),
             PhysExpr::Count(node) => node.evaluate_inline_impl(alloc, depth_limit),
+            PhysExpr::Window(node) => node.evaluate_inline_impl(alloc, depth_limit),
         }
     }
 
@@ -216,6 +226,7 @@ impl PhysicalExpr for PhysExpr {
             PhysExpr::SortBy(node) => node.to_field(alloc, input_schema),
             PhysExpr::Aggregation(node) => node.to_field(alloc, input_schema),
             PhysExpr::Count(node) => node.to_field(alloc, input_schema),
+            PhysExpr::Window(node) => node.to_field(alloc, input_schema),
         }
     }
 
@@ -236,6 +247,7 @@ impl PhysicalExpr for PhysExpr {
             PhysExpr::SortBy(node) => node.collect_live_columns(alloc, lv),
             PhysExpr::Aggregation(node) => node.collect_live_columns(alloc, lv),
             PhysExpr::Count(node) => node.collect_live_columns(alloc, lv),
+            PhysExpr::Window(node) => node.collect_live_columns(alloc, lv),
         }
     }
 
@@ -256,6 +268,7 @@ impl PhysicalExpr for PhysExpr {
             PhysExpr::SortBy(node) => node.is_literal(),
             PhysExpr::Aggregation(node) => node.is_literal(),
             PhysExpr::Count(node) => node.is_literal(),
+            PhysExpr::Window(node) => node.is_literal(),
         }
     }
 
@@ -276,6 +289,7 @@ impl PhysicalExpr for PhysExpr {
             PhysExpr::SortBy(node) => node.is_scalar(),
             PhysExpr::Aggregation(node) => node.is_scalar(),
             PhysExpr::Count(node) => node.is_scalar(),
+            PhysExpr::Window(node) => node.is_scalar(),
         }
     }
 
@@ -295,6 +309,7 @@ impl PhysicalExpr for PhysExpr {
             PhysExpr::SortBy(node) => node.is_partitioned_aggregator(),
             PhysExpr::Aggregation(node) => node.is_partitioned_aggregator(),
             PhysExpr::Count(node) => node.is_partitioned_aggregator(),
+            PhysExpr::Window(node) => node.is_partitioned_aggregator(),
         }
     }
 }
@@ -311,12 +326,13 @@ pub fn evaluate_cell<L: Ledger, M: Ledger>(
     kernels: &mut Steps<L>,
     groupings: &mut Steps<M>,
 ) -> Px<Cell>
-    ensures value { IfOk result (λ c. IsCellOf (plan_of node.now) (alone df.now) (named_cell c)) }
-    ensures causes { IfErr result (λ e. IsCause e (plan_of node.now) (alone df.now)) }
+    ensures value { IfOk result (λ c. IsCellOf (plan_of node.now) (beside df.now state.old) (named_cell c)) }
+    ensures causes { IfErr result (λ e. IsCause e (plan_of node.now) (beside df.now state.old)) }
     ensures frame { state.new ≡ state.old }
-    ensures grouped { groupings.new ≡ groupings.old }
+    ensures grouped { OnOk result (groupings.new ≡ groupings.old + windows_in (plan_of node.now).tree) }
+    ensures grouped_most { GroupedAtMost (plan_of node.now).tree groupings.old groupings.new }
     ensures ticks { OnOk result (RunExactly (plan_of node.now).tree kernels.old kernels.new) }
-    ensures cost { RunAtMost (plan_of node.now).tree (alone df.now) kernels.old kernels.new }
+    ensures cost { RunAtMost (plan_of node.now).tree (beside df.now state.old) kernels.old kernels.new }
 {
     let column = node.evaluate(alloc, df, state, kernels, groupings)?;
     Ok(Cell::new(column, node.is_scalar()))
@@ -334,13 +350,14 @@ pub fn evaluate_cells<L: Ledger, M: Ledger>(
     kernels: &mut Steps<L>,
     groupings: &mut Steps<M>,
 ) -> Px<Vec<Cell>>
-    ensures value { IfOk result (λ v. AreCellsOf (map plan_of nodes.now) (alone df.now) (map named_cell v.items)) }
-    ensures causes { IfErr result (λ e. IsCauseOfAny e (map plan_of nodes.now) (alone df.now)) }
+    ensures value { IfOk result (λ v. AreCellsOf (map plan_of nodes.now) (beside df.now state.old) (map named_cell v.items)) }
+    ensures causes { IfErr result (λ e. IsCauseOfAny e (map plan_of nodes.now) (beside df.now state.old)) }
     ensures frame { state.new ≡ state.old }
-    ensures grouped { groupings.new ≡ groupings.old }
+    ensures grouped { OnOk result (groupings.new ≡ groupings.old + all_windows_in (plan_trees (map plan_of nodes.now))) }
+    ensures grouped_most { GroupedAllAtMost (plan_trees (map plan_of nodes.now)) groupings.old groupings.new }
     ensures ticks { OnOk result (RunAllExactly (plan_trees (map plan_of nodes.now)) kernels.old kernels.new) }
     ensures least { OnOk result (RunAllAtLeast (map plan_of nodes.now) kernels.old kernels.new) }
-    ensures most { OnOk result (RisesAtMost (costs_on (map (λ n. (plan_of n).tree) nodes.now) (alone df.now)) kernels.old kernels.new) }
+    ensures most { RisesAtMost (costs_on (map (λ n. (plan_of n).tree) nodes.now) (beside df.now state.old)) kernels.old kernels.new }
     ensures cost { RunAllAtMost (plan_trees (map plan_of nodes.now)) kernels.old kernels.new }
 {
     let mut cells = Vec::with_capacity(alloc, nodes.len())?;
@@ -396,6 +413,7 @@ pub fn has_literals_alone(node: &PhysExpr) -> bool
         PhysExpr::SortBy(node) => node.has_literals_alone(),
         PhysExpr::Aggregation(node) => has_literals_alone(node.expr()),
         PhysExpr::Count(node) => node.has_literals_alone(),
+        PhysExpr::Window(node) => node.has_literals_alone(),
     }
 }
 

@@ -1,18 +1,19 @@
 //! What each node offers.
-ghost use Rattle.std.specs.Prelude.{◌≡◌, length, Ok, IfOk, IfErr, OnOk, OnErr, option_map};
+ghost use Rattle.std.specs.Prelude.{◌≡◌, ◌+◌, length, Ok, IfOk, IfErr, OnOk, OnErr, option_map};
 ghost use Rattle.px_column.specs.Prelude.{AnswersBy, Answers};
-ghost use Rattle.px_frame.specs.External.{alone};
 ghost use Rattle.px_frame.specs.Frame.{height_of};
 ghost use Rattle.px_frame.specs.SchemaView.{field_kind};
+ghost use Rattle.px_tree.specs.Cost.{windows_in};
 ghost use Rattle.px_tree.specs.Shape.{is_unit};
 ghost use Rattle.px_tree.specs.View.{tree};
-ghost use Rattle.px_answers.specs.Counted.{RunAtMost, RunExactly};
+ghost use Rattle.px_answers.specs.Counted.{GroupedAtMost, RunAtMost, RunExactly};
 ghost use Rattle.px_answers.specs.Inline.{IsInline};
 ghost use Rattle.px_answers.specs.Live.{expression_of, field_on, is_literal_node, is_partitioned, live_names, added, AddsFront};
 ghost use Rattle.px_answers.specs.Planned.{Planned};
 ghost use Rattle.px_answers.specs.Value.{IsValue, IsCause};
 ghost use Rattle.px_group_answers.specs.Counted.{RunOnGroups};
 ghost use Rattle.px_group_answers.specs.OnGroups.{IsContextOf, IsGroupCause};
+ghost use Rattle.px_window.specs.State.{beside};
 
 use indexmap::IndexSet;
 use px_column::{Column, Name, Px, Steps};
@@ -31,10 +32,11 @@ pub trait PhysicalExpr {
     fn as_expression(&self) -> Option<&Expr>
         ensures { option_map (λ e. tree e.now) result ≡ expression_of (planned self.now).tree };
 
-    /// The value on a frame as a column, a unit as one row. What is refused, missing or a fault is told
-    /// by its error; `TooLong` comes only where the expression, or one in it, has 2^32 values or more.
-    /// `kernels` rises by one for each kernel that runs: where the expression is flat, exactly once a
-    /// node that has one, and never by more than the expression's cost.
+    /// The value on a frame, beside which stand the columns of the state's external frames, as a column, a
+    /// unit as one row. What is refused, missing or a fault is told by its error; `TooLong` comes only where
+    /// the expression, or one in it, has 2^32 values or more. `kernels` rises by one for each kernel that
+    /// runs: where the expression is flat, exactly once a node that has one, and never by more than the
+    /// expression's cost. `groupings` rises once for each window.
     fn evaluate<L: Ledger, M: Ledger>(
         &self,
         alloc: Global,
@@ -43,18 +45,20 @@ pub trait PhysicalExpr {
         kernels: &mut Steps<L>,
         groupings: &mut Steps<M>,
     ) -> Px<Column>
-        ensures value { IfOk result (λ c. IsValue (planned self.now) (alone df.now) c) }
-        ensures causes { IfErr result (λ e. IsCause e (planned self.now) (alone df.now)) }
+        ensures value { IfOk result (λ c. IsValue (planned self.now) (beside df.now state.old) c) }
+        ensures causes { IfErr result (λ e. IsCause e (planned self.now) (beside df.now state.old)) }
         ensures frame { state.new ≡ state.old }
-        ensures grouped { groupings.new ≡ groupings.old }
+        ensures grouped { OnOk result (groupings.new ≡ groupings.old + windows_in (planned self.now).tree) }
+        ensures grouped_most { GroupedAtMost (planned self.now).tree groupings.old groupings.new }
         ensures ticks { OnOk result (RunExactly (planned self.now).tree kernels.old kernels.new) }
-        ensures cost { RunAtMost (planned self.now).tree (alone df.now) kernels.old kernels.new };
+        ensures cost { RunAtMost (planned self.now).tree (beside df.now state.old) kernels.old kernels.new };
 
     /// The value on the frame of each group's rows, as a context with a cell for each group; `groups` have
-    /// the frame's height. What is refused on groups, missing, or a fault of some group is told by its
-    /// error; `TooLong` comes only where the expression, or one in it, has 2^32 values or more over all
-    /// groups together. `kernels` rises by one for each kernel that runs: where the expression is flat,
-    /// exactly once a node that has one, else at most once a node for each group and once more.
+    /// the frame's height, and the columns of the state's external frames stand beside the frame. What is
+    /// refused on groups, missing, or a fault of some group is told by its error; `TooLong` comes only where
+    /// the expression, or one in it, has 2^32 values or more over all groups together. `kernels` rises by
+    /// one for each kernel that runs: where the expression is flat, exactly once a node that has one, else at
+    /// most once a node for each group and once more.
     fn evaluate_on_groups<'a, L: Ledger, M: Ledger>(
         &self,
         alloc: Global,
@@ -65,8 +69,8 @@ pub trait PhysicalExpr {
         groupings: &mut Steps<M>,
     ) -> Px<AggregationContext<'a>>
         requires { groups.now.height ≡ height_of df.now }
-        ensures context { IfOk result (IsContextOf (planned self.now) (alone df.now) groups.now) }
-        ensures causes { IfErr result (λ e. IsGroupCause e (planned self.now) (alone df.now) groups.now) }
+        ensures context { IfOk result (IsContextOf (planned self.now) (beside df.now state.old) groups.now) }
+        ensures causes { IfErr result (λ e. IsGroupCause e (planned self.now) (beside df.now state.old) groups.now) }
         ensures frame { state.new ≡ state.old }
         ensures grouped { groupings.new ≡ groupings.old }
         ensures ticks { OnOk result (RunExactly (planned self.now).tree kernels.old kernels.new) }

@@ -1,14 +1,12 @@
 //! From expressions in an arena to nodes.
-ghost use Rattle.std.specs.Prelude.{◌≡◌, ◌<◌, true, false, length, map, Ok, IfErr, IfOk, OnOk, OnErr};
+ghost use Rattle.std.specs.Prelude.{◌≡◌, ◌<◌, length, map, Ok, IfErr, IfOk, OnOk, OnErr};
 ghost use Rattle.std.specs.List.{All};
 ghost use Rattle.px_column.specs.Prelude.{AnswersBy, kind_of};
 ghost use Rattle.px_arena.specs.Arena.{tree_at};
-ghost use Rattle.px_tree.specs.Built.{is_built_tree};
-ghost use Rattle.px_tree.specs.Shape.{have_window};
 ghost use Rattle.px_tree.specs.Typing.{type_of};
-ghost use Rattle.px_tree.specs.View.{tree, trees, agg_tree};
-ghost use Rattle.px_expr.specs.NodeView.{plan_of};
-ghost use Rattle.px_expr.specs.Plan.{plan_in, plans_in, planned_over, all_planned_over, noted, all_noted, IsPlannable, NotesFront};
+ghost use Rattle.px_tree.specs.View.{tree, trees, agg_tree, mapping_of, order_tree};
+ghost use Rattle.px_expr.specs.NodeView.{order_of, plan_of};
+ghost use Rattle.px_expr.specs.Plan.{function_of, plan_in, plans_in, planned_over, all_planned_over, order_planned_over, noted, all_noted, IsPlannable, NotesFront};
 
 mod apply;
 mod nodes;
@@ -18,13 +16,18 @@ use crate::count::CountExpr;
 use crate::phys_expr::PhysExpr;
 use apply::plan_apply;
 use nodes::{
-    plan_aggregation, plan_alias, plan_binary, plan_cast, plan_column, plan_filter, plan_gather,
-    plan_literal, plan_slice, plan_sort, plan_sort_by, plan_ternary,
+    PlannedFunction, plan_aggregation, plan_alias, plan_binary, plan_cast, plan_column,
+    plan_filter, plan_gather, plan_literal, plan_slice, plan_sort, plan_sort_by, plan_ternary,
+    plan_window,
 };
-use px_column::{DataType, GroupByMethod, Px};
+use px_column::{DataType, GroupByMethod, Px, SortOptions};
 use px_frame::SchemaRef;
-use px_plan::{AggExpr, Arena, Context, Expr, ExprIR, Exprs, FunctionExpr, node_to_expr, type_of};
+use px_plan::{
+    AggExpr, Arena, Context, Expr, ExprIR, Exprs, FunctionExpr, WindowMapping, WindowType,
+    node_to_expr, type_of,
+};
 use std::alloc::Global;
+use std::rc::Rc;
 
 /// The nodes of expressions in their order, each under the name that it is given, if any; or the first
 /// refusal, before which what is noted is that of the expressions so far (polars
@@ -62,7 +65,6 @@ pub fn create_physical_expr(
     state: &mut ExpressionConversionState,
 ) -> Px<PhysExpr>
     requires node { expr_ir.now.node.0 < length expr_arena.now }
-    requires built { is_built_tree (tree_at expr_arena.now expr_ir.now.node) ≡ true }
     ensures node { AnswersBy plan_of result (plan_in expr_ir.now.alias (tree_at expr_arena.now expr_ir.now.node) schema.now.value ctxt) }
     ensures noted { OnOk result (state.new ≡ noted (tree_at expr_arena.now expr_ir.now.node) state.old) }
     ensures refused { OnErr result (state.new ≡ state.old) }
@@ -81,7 +83,6 @@ pub fn create_typed_expr(
     state: &mut ExpressionConversionState,
 ) -> Px<(PhysExpr, DataType)>
     requires node { expr_ir.now.node.0 < length expr_arena.now }
-    requires built { is_built_tree (tree_at expr_arena.now expr_ir.now.node) ≡ true }
     ensures node { AnswersBy (λ p. plan_of p.0) result (plan_in expr_ir.now.alias (tree_at expr_arena.now expr_ir.now.node) schema.now.value ctxt) }
     ensures dtype { IfOk result (λ p. type_of (tree_at expr_arena.now expr_ir.now.node) schema.now.value ctxt ≡ Ok (kind_of p.1)) }
     ensures noted { OnOk result (state.new ≡ noted (tree_at expr_arena.now expr_ir.now.node) state.old) }
@@ -102,7 +103,6 @@ pub fn create_typed_expr(
 // The node of an expression that has no refusal over the schema; the nodes share its parts.
 #[cycle(plan_expr)]
 fn plan_expr(alloc: Global, expr: &Expr, schema: &SchemaRef) -> Px<PhysExpr>
-    requires { is_built_tree (tree expr.now) ≡ true }
     ensures { AnswersBy plan_of result (Ok (planned_over schema.now.value (tree expr.now))) }
 {
     match expr {
@@ -187,14 +187,23 @@ fn plan_expr(alloc: Global, expr: &Expr, schema: &SchemaRef) -> Px<PhysExpr>
         }
         Expr::Agg(reduction) => plan_reduction(alloc, reduction, schema),
         Expr::Len => Ok(PhysExpr::Count(CountExpr::new())),
-        Expr::Window { .. } => unreachable!(),
+        Expr::Window {
+            function,
+            partition_by,
+            order_by,
+            options,
+        } => {
+            let planned = plan_function(alloc, function, schema)?;
+            let keys = plan_all(alloc, partition_by, schema)?;
+            let order = plan_order(alloc, order_by, schema)?;
+            plan_window(alloc, planned, keys, order, mapping_of(options), expr)
+        }
     }
 }
 
 // The nodes of some expressions that have no refusal over the schema, in their order.
 #[cycle(plan_expr)]
 fn plan_all(alloc: Global, exprs: &Exprs, schema: &SchemaRef) -> Px<Vec<PhysExpr>>
-    requires { have_window (trees exprs.now) ≡ false }
     ensures { AnswersBy (λ v. map plan_of v.items) result (Ok (all_planned_over schema.now.value (trees exprs.now))) }
 {
     let mut plans = Vec::with_capacity(alloc, exprs.items.len())?;
@@ -204,10 +213,65 @@ fn plan_all(alloc: Global, exprs: &Exprs, schema: &SchemaRef) -> Px<Vec<PhysExpr
     Ok(plans)
 }
 
+// Where what a window's function has for each part stands.
+fn mapping_of(options: &WindowType) -> WindowMapping
+    ensures { result ≡ mapping_of options.now }
+{
+    match options {
+        WindowType::Over(mapping) => *mapping,
+    }
+}
+
+// The function of a window: an alias is its result's name, and the function what the alias stands over.
+#[cycle(plan_expr)]
+fn plan_function(alloc: Global, function: &Expr, schema: &SchemaRef) -> Px<PlannedFunction>
+    ensures planned { AnswersBy function_of result (Ok (planned_over schema.now.value (tree function.now))) }
+    ensures function { IfOk result (λ p. tree p.function ≡ (plan_of p.node).tree) }
+{
+    match function {
+        Expr::Alias(input, name) => {
+            let out_name = Some(name.try_clone(alloc)?);
+            let function = input.try_clone(alloc)?;
+            let node = plan_expr(alloc, input, schema)?;
+            Ok(PlannedFunction {
+                out_name,
+                function,
+                node,
+            })
+        }
+        _ => {
+            let node = plan_expr(alloc, function, schema)?;
+            let function = function.try_clone(alloc)?;
+            Ok(PlannedFunction {
+                out_name: None,
+                function,
+                node,
+            })
+        }
+    }
+}
+
+// The node of what rows are ordered by, if by any, which has no refusal over the schema.
+#[cycle(plan_expr)]
+fn plan_order(
+    alloc: Global,
+    order: &Option<(Rc<Expr>, SortOptions)>,
+    schema: &SchemaRef,
+) -> Px<Option<(Box<PhysExpr>, SortOptions)>>
+    ensures { AnswersBy order_of result (Ok (order_planned_over schema.now.value (order_tree order.now))) }
+{
+    match order {
+        None => Ok(None),
+        Some((key, options)) => {
+            let key = plan_expr(alloc, key, schema)?;
+            Ok(Some((Box::new(alloc, key)?, *options)))
+        }
+    }
+}
+
 // The node of a reduction that has no refusal over the schema.
 #[cycle(plan_expr)]
 fn plan_reduction(alloc: Global, reduction: &AggExpr, schema: &SchemaRef) -> Px<PhysExpr>
-    requires { is_built_tree (agg_tree reduction.now) ≡ true }
     ensures { AnswersBy plan_of result (Ok (planned_over schema.now.value (agg_tree reduction.now))) }
 {
     let (method, input) = match reduction {

@@ -15,7 +15,7 @@ use Rattle.px_tree.specs.Shape.{is_unit, name_of}
 use Rattle.px_tree.specs.Size.{counts_on, size_on}
 use Rattle.px_tree.specs.Tree.{Tree, column, literal, alias, binary, ternary, cast, function, filter, slice, gather, sort, sort_by, agg, len, window}
 use Rattle.px_tree.specs.Typing.{kind_in, refusals_of, own_refusals, or_first, refusal_of, refused_where}
-use Rattle.px_tree.specs.Value.{faults_on, has_misfit, is_misfit}
+use Rattle.px_tree.specs.Value.{faults_on}
 use Rattle.px_tree.specs.declared.context.Context.TheVariants.{Aggregation}
 use Rattle.px_context.specs.Context.{Context}
 use Rattle.px_group_nodes.specs.Lane.{has_lane}
@@ -23,7 +23,7 @@ use Rattle.px_group_nodes.specs.Made.{AreUntouched, IsMade, IsRefusal, KeepsGrou
 use Rattle.px_answers.proofs.Inputs.{IsIn, IsNode, all_none, both_up, in_all, no_misfit, one_left, one_right, size_in, unfound_above, unfound_apart, where_up, first_up, any_in}
 use Rattle.px_answers.proofs.Plain.{Plain, is_plain}
 use Rattle.px_answers.specs.Planned.{Planned}
-use Rattle.px_answers.specs.Value.{IsOneOf, unfound_refusal}
+use Rattle.px_answers.specs.Value.{IsOneOf, finds_misfit, has_misfit_column, unfound_refusal}
 use Rattle.px_group_answers.proofs.Pointwise.{AreAnswers, IsTold, cells_made, counts_told, fault_told}
 use Rattle.px_group_answers.specs.OnGroups.{IsContextOf, IsGroupCause, group_causes, group_frames, group_refusals}
 
@@ -67,8 +67,8 @@ module _ (q : Planned) (ps : List Planned) (node : (f : Frame) → IsNode q ps f
   -- the refusals of an input are the node's
   refusals_up : (e : PxError) (p : Planned) (frame : Frame) → IsIn p ps → IsOneOf e (group_refusals p frame) → IsOneOf e (group_refusals q frame)
   refusals_up e p frame i h =
-      both_up e (refusals_of p.tree (scope_of frame) Aggregation ++ flat_map (unfound_refusal frame) p.columns) (refused_where (has_misfit p.tree frame) ShapeMismatch)
-      (refusals_of q.tree (scope_of frame) Aggregation ++ flat_map (unfound_refusal frame) q.columns) (refused_where (has_misfit q.tree frame) ShapeMismatch)
+      both_up e (refusals_of p.tree (scope_of frame) Aggregation ++ flat_map (unfound_refusal frame) p.columns) (refused_where (has_misfit_column p frame) ShapeMismatch)
+      (refusals_of q.tree (scope_of frame) Aggregation ++ flat_map (unfound_refusal frame) q.columns) (refused_where (has_misfit_column q frame) ShapeMismatch)
       (both_up e (refusals_of p.tree (scope_of frame) Aggregation) (flat_map (unfound_refusal frame) p.columns) (refusals_of q.tree (scope_of frame) Aggregation) (flat_map (unfound_refusal frame) q.columns) typed (unfound_above e q ps p frame (node frame) i)) misfit h
     where
       typed : IsOneOf e (refusals_of p.tree (scope_of frame) Aggregation) → IsOneOf e (refusals_of q.tree (scope_of frame) Aggregation)
@@ -77,8 +77,8 @@ module _ (q : Planned) (ps : List Planned) (node : (f : Frame) → IsNode q ps f
           (first_up e (flat_map (λ (x : Planned). refusals_of x.tree (scope_of frame) Aggregation) ps) (own_refusals q.tree (scope_of frame) Aggregation)
           (in_all e (λ (x : Planned). refusals_of x.tree (scope_of frame) Aggregation) p ps i k))
 
-      misfit : IsOneOf e (refused_where (has_misfit p.tree frame) ShapeMismatch) → IsOneOf e (refused_where (has_misfit q.tree frame) ShapeMismatch)
-      misfit j = where_up e ShapeMismatch (has_misfit p.tree frame) (has_misfit q.tree frame) (λ t. ap (list_any (is_misfit frame)) (node frame).leaves ∙ any_in (is_misfit frame) p ps i t) j
+      misfit : IsOneOf e (refused_where (has_misfit_column p frame) ShapeMismatch) → IsOneOf e (refused_where (has_misfit_column q frame) ShapeMismatch)
+      misfit j = where_up e ShapeMismatch (has_misfit_column p frame) (has_misfit_column q frame) (λ t. ap (list_any (finds_misfit frame)) (node frame).columns ∙ any_in (finds_misfit frame) p ps i t) j
 
   -- the causes of an input are causes of the node
   pub group_cause_above : (e : PxError) (p : Planned) (frame : Frame) (g : Groups) → IsIn p ps → IsGroupCause e p frame g → IsGroupCause e q frame g
@@ -103,7 +103,7 @@ module _ (q : Planned) (ps : List Planned) (node : (f : Frame) → IsNode q ps f
       let first : IsOneOf e (refusals_of q.tree (scope_of frame) Aggregation) = subst (IsOneOf e) (sym (own_alone frame h ∙ own)) (inl refl) in
       plain_group_cause e q frame g i
       (one_left e (group_refusals q frame) (flat_map (faults_on q.tree) (group_frames frame g))
-      (one_left e (refusals_of q.tree (scope_of frame) Aggregation ++ flat_map (unfound_refusal frame) q.columns) (refused_where (has_misfit q.tree frame) ShapeMismatch)
+      (one_left e (refusals_of q.tree (scope_of frame) Aggregation ++ flat_map (unfound_refusal frame) q.columns) (refused_where (has_misfit_column q frame) ShapeMismatch)
       (one_left e (refusals_of q.tree (scope_of frame) Aggregation) (flat_map (unfound_refusal frame) q.columns) first)))
 
   -- a node is not refused where its inputs are not, and it has no refusal of its own
@@ -115,11 +115,11 @@ module _ (q : Planned) (ps : List Planned) (node : (f : Frame) → IsNode q ps f
           unfound_apart q ps frame (node frame)
           ∙ all_none (λ (p : Planned). group_refusals p frame) (λ (p : Planned). flat_map (unfound_refusal frame) p.columns) ps (λ p k. none_right (refusals_of p.tree (scope_of frame) Aggregation) _ (none_left _ _ k)) h
 
-      misfit : refused_where (has_misfit q.tree frame) ShapeMismatch ≡ []
+      misfit : refused_where (has_misfit_column q frame) ShapeMismatch ≡ []
       misfit =
-          let none = no_misfit (is_misfit frame) ShapeMismatch ps
-          (all_none (λ (p : Planned). group_refusals p frame) (λ (p : Planned). refused_where (has_misfit p.tree frame) ShapeMismatch) ps (λ p k. none_right (refusals_of p.tree (scope_of frame) Aggregation ++ flat_map (unfound_refusal frame) p.columns) _ k) h) in
-          ap (λ b. refused_where b ShapeMismatch) (ap (list_any (is_misfit frame)) (node frame).leaves ∙ none)
+          let none = no_misfit (finds_misfit frame) ShapeMismatch ps
+          (all_none (λ (p : Planned). group_refusals p frame) (λ (p : Planned). refused_where (has_misfit_column p frame) ShapeMismatch) ps (λ p k. none_right (refusals_of p.tree (scope_of frame) Aggregation ++ flat_map (unfound_refusal frame) p.columns) _ k) h) in
+          ap (λ b. refused_where b ShapeMismatch) (ap (list_any (finds_misfit frame)) (node frame).columns ∙ none)
 
 -- what a node answers on groups, with its name and its type, where its inputs are not refused there
 pub record Answers (q : Planned) (ps : List Planned) (frame : Frame) (g : Groups) (name : List ℕ) (typed : Result Kind PxError) (answers : List (Result NamedCell PxError)) : Type 0 where

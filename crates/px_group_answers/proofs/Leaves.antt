@@ -1,8 +1,7 @@
--- Nodes without inputs on groups: columns, literals and the number of rows.
-use Rattle.std.proofs.Common.{◌≡◌, ℕ, zero, suc, ◌+◌, ◌<◌, ◌^◌, ◌≤◌, ℤ, pos, ◌+ℤ◌, ◌-ℤ◌, Bool, true, false, ◌⊎◌, inr, cond, not, ◌&&◌, nat_lt, List, [], ◌∷◌, ◌++◌, Option, Some, None, Result, Ok, Err, Bor, IfOk, IfErr, IfSome, drop, inl, length, map, refl, sym, ◌∙◌, ap, subst, arith}
+-- Nodes without inputs on groups: literals and the number of rows.
+use Rattle.std.proofs.Common.{◌≡◌, ℕ, zero, suc, ◌+◌, ◌<◌, ◌^◌, ◌≤◌, ℤ, pos, ◌+ℤ◌, ◌-ℤ◌, Bool, true, false, ◌⊎◌, inr, cond, not, ◌&&◌, nat_lt, List, [], ◌∷◌, ◌++◌, Result, Some, Ok, Err, IfErr, inl, length, map, refl, sym, ◌∙◌, ap, subst, arith}
 use Rattle.std.specs.List.{list_all}
-use Rattle.std.specs.Option.{option_or}
-use Rattle.std.specs.Prelude.{codes, is_none, option_map}
+use Rattle.std.specs.Prelude.{codes}
 use Rattle.std.proofs.lemmas.Bool.Decides.{nat_tests}
 use Rattle.std.proofs.lemmas.List.{length-map}
 use Rattle.std.proofs.lemmas.List.FromFn.{length-map-range_with_len}
@@ -12,13 +11,10 @@ use Rattle.px_value.specs.declared.error.ComputeWhy.TheVariants.{RangeBound, Too
 use Rattle.px_value.specs.declared.error.InvalidWhy.TheVariants.{RangeType}
 use Rattle.px_value.specs.declared.error.PxError.{PxError}
 use Rattle.px_value.specs.declared.error.PxError.TheVariants.{ColumnNotFound, Duplicate, InvalidOperation, ComputeError, OutOfBounds, ShapeMismatch, SchemaMismatch, OutOfMemory}
-use Rattle.px_frame.proofs.LookLaws.{field_look, look_rows}
 use Rattle.px_frame.specs.Aggregate.{count_column}
 use Rattle.px_frame.specs.Cell.{Cell, unit, rows}
-use Rattle.px_frame.specs.External.{Frame, alone, height, rows_of_frame, scope_of}
-use Rattle.px_frame.specs.Frame.{are_below, height_of, look, series_at, slots_at}
+use Rattle.px_frame.specs.External.{Frame, height, rows_of_frame}
 use Rattle.px_frame.specs.Groups.{Group, Groups, IsGroups, is_group}
-use Rattle.px_frame.specs.Schema.{column_field}
 use Rattle.px_frame.specs.Spread.{NamedCell}
 use Rattle.px_tree.specs.Cost.{is_flat_rows}
 use Rattle.px_tree.specs.Node.{integers, literal_cell, natural}
@@ -30,80 +26,14 @@ use Rattle.px_context.specs.Built.{literal_context, new_context}
 use Rattle.px_context.specs.Context.{Context, cells_of}
 use Rattle.px_group_nodes.specs.Made.{named_in}
 use Rattle.px_answers.proofs.Cells.{value_is_cell}
-use Rattle.px_answers.proofs.Columns.{column_named, found_is_value}
 use Rattle.px_answers.proofs.Counts.{and_left, and_right}
 use Rattle.px_answers.specs.Literal.{literal_column, range_column, range_series}
-use Rattle.px_answers.specs.Planned.{Planned, PlannedColumn, found_by, is_added}
-use Rattle.px_answers.specs.Value.{IsCellOf, IsOneOf}
+use Rattle.px_answers.specs.Planned.{Planned}
+use Rattle.px_answers.specs.Value.{IsCellOf}
+use Rattle.px_group_answers.proofs.Columns.{below_of, row_count}
 use Rattle.px_group_answers.proofs.Pointwise.{sum_more}
 use Rattle.px_group_answers.specs.Leaf.{group_literal_column}
-use Rattle.px_group_answers.specs.OnGroups.{AreCellsOn, IsContextOf, IsGroupCause, group_causes, group_frames}
-
--- columns behind others, at some rows
-drop_rows : (n : ℕ) (p : List ℕ) (columns : List Series) → drop n (map (series_at p) columns) ≡ map (series_at p) (drop n columns)
-drop_rows zero p columns = refl
-drop_rows (suc n) p [] = refl
-drop_rows (suc n) p (s ∷ columns) = drop_rows n p columns
-
--- what a column node finds does not depend on the rows
-found_rows : (c : PlannedColumn) (p : List ℕ) (columns : List Series) (s : Series) → found_by c (alone columns) ≡ Some s → found_by c (alone (map (series_at p) columns)) ≡ Some (series_at p s)
-found_rows c p columns s h = by (is_added c) h
-  where
-    either : (o : Option Series) → option_or o None ≡ Some s → option_or (option_map (series_at p) o) None ≡ Some (series_at p s)
-    either None k = absurd (cc k)
-    either (Some t) k = let same : t ≡ s = cc in ap (λ (u : Series). Some (series_at p u)) same
-
-    by : (b : Bool) → cond b (look c.name (drop (length c.schema) columns)) (option_or (look c.name columns) None) ≡ Some s
-        → cond b (look c.name (drop (length c.schema) (map (series_at p) columns))) (option_or (look c.name (map (series_at p) columns)) None) ≡ Some (series_at p s)
-    by true k = ap (look c.name) (drop_rows (length c.schema) p columns) ∙ look_rows c.name (drop (length c.schema) columns) p ∙ ap (option_map (series_at p)) k
-    by false k = ap (λ o. option_or o None) (look_rows c.name columns p) ∙ either (look c.name columns) k
-
--- the column at a group's rows is the value on their frame
-found_cell : (c : PlannedColumn) (columns : List Series) (s : Series) (p : List ℕ) → found_by c (alone columns) ≡ Some s → look c.name columns ≡ Some s
-    → IsCellOf (record { tree = column c.name; columns = c ∷ [] }) (rows_of_frame (alone columns) p) (record { name = s.name; kind = s.kind; cell = rows (slots_at s.slots p) })
-found_cell c columns s p f l =
-    value_is_cell (record { tree = column c.name; columns = c ∷ [] }) (alone (map (series_at p) columns)) (series_at p s) _
-    (found_is_value c (map (series_at p) columns) (series_at p s) (found_rows c p columns s f) (look_rows c.name columns p ∙ ap (option_map (series_at p)) l)) refl
-
-found_cells : (c : PlannedColumn) (columns : List Series) (s : Series) (g : Groups) (gs : List Group) → found_by c (alone columns) ≡ Some s → look c.name columns ≡ Some s
-    → AreCellsOn (record { tree = column c.name; columns = c ∷ [] }) (map (rows_of_frame (alone columns)) (map (λ (p : Group). p.rows) gs)) (map (named_in (new_context false s g)) (map (λ (p : Group). rows (slots_at s.slots p.rows)) gs))
-found_cells c columns s g [] f l = tt
-found_cells c columns s g (p ∷ gs) f l = (found_cell c columns s p.rows f l, found_cells c columns s g gs f l)
-
--- a column of the frame with the groups that were handed in is what its node has on these
-pub found_context : (p : Planned) (c : PlannedColumn) (columns : List Series) (s : Series) (g : Groups) → p ≡ record { tree = column c.name; columns = c ∷ [] } → found_by c (alone columns) ≡ Some s → look c.name columns ≡ Some s
-    → IsContextOf p (alone columns) g (new_context false s g)
-found_context p c columns s g e f l =
-    subst (λ (q : Planned). IsContextOf q (alone columns) g (new_context false s g)) (sym e)
-    (record {
-      sound = rw (kind, f, l) refl;
-      name = sym (column_named c.name columns s l);
-      kind = kind;
-      cells = found_cells c columns s g g.groups f l;
-      shape = refl;
-      count = refl;
-      kept = λ _. refl;
-      lane = λ _. refl;
-    })
-  where
-    kind : kind_of_name c.name (map column_field columns) ≡ Some s.kind
-    kind = rw (field_look c.name columns, l) refl
-
--- and so is what was found, with these groups
-pub found_on_groups : (p : Planned) (c : PlannedColumn) (columns : List Series) (g : Groups) (r : Option (Bor Series)) (b : Bor Series) (k : Context) → p ≡ record { tree = column c.name; columns = c ∷ [] }
-    → option_map (λ x. x.now) r ≡ found_by c (alone columns) → IfSome r (λ x. look c.name columns ≡ Some x.now) → r ≡ Some b → k ≡ new_context false b.now g → IsContextOf p (alone columns) g k
-found_on_groups p c columns g None b k s f l is e = absurd (cc is)
-found_on_groups p c columns g (Some x) b k s f l is e =
-    let same : x.now ≡ b.now = cc in
-    subst (IsContextOf p (alone columns) g) (sym (e ∙ ap (λ (t : Series). new_context false t g) (sym same))) (found_context p c columns x.now g s (sym f) l)
-
--- a node that finds no column has that as its cause
-pub unfound_group_cause : (p : Planned) (c : PlannedColumn) (columns : List Series) (g : Groups) → p ≡ record { tree = column c.name; columns = c ∷ [] } → found_by c (alone columns) ≡ None → IsGroupCause (ColumnNotFound c.name) p (alone columns) g
-unfound_group_cause p c columns g e f = subst (λ (q : Planned). IsGroupCause (ColumnNotFound c.name) q (alone columns) g) (sym e) (by (kind_of_name c.name (map column_field columns)) refl)
-  where
-    by : (o : Option Kind) → kind_of_name c.name (map column_field columns) ≡ o → IsOneOf (ColumnNotFound c.name) (group_causes (record { tree = column c.name; columns = c ∷ [] }) (alone columns) g)
-    by None k = rw k (inl refl)
-    by (Some j) k = rw (k, f) (inl refl)
+use Rattle.px_group_answers.specs.OnGroups.{AreCellsOn, IsContextOf, IsGroupCause, group_frames}
 
 -- literals
 abbrev plan : Literal → Planned
@@ -263,47 +193,31 @@ planned_cause v frame g (Err SchemaMismatch) a = cause_of_literal v frame g Sche
 pub literal_group_cause : (q : Planned) (v : Literal) (frame : Frame) (g : Groups) (r : Result Series PxError) → q ≡ plan v → Answers r (group_literal_column v (length g.groups)) → IfErr r (λ e. IsGroupCause e q frame g)
 literal_group_cause q v frame g r e a = rw e (planned_cause v frame g r a)
 
--- no number is below 0
-none_below : (r : ℕ) (b : Bool) → (nat_lt r 0 && b) ≡ true → ⊥
-none_below r b h =
-    let none : nat_lt r 0 ≡ false = grind (arith, nat_tests) in
-    let same : false ≡ true = sym (ap (λ x. x && b) none) ∙ h in
-    absurd (cc same)
-
--- the number of rows of a group's frame
-row_count : (columns : List Series) (p : List ℕ) → are_below (height_of columns) p ≡ true → height_of (map (series_at p) columns) ≡ length p
-row_count [] [] h = refl
-row_count [] (r ∷ p) h = absurd (none_below r _ h)
-row_count (s ∷ columns) p h = length-map p (slot_at s.slots)
-
-below_of : (height : ℕ) (p : Group) → is_group height p ≡ true → are_below height p.rows ≡ true
-below_of height p h = and_left (are_below height p.rows) (nat_lt (length p.rows) (2 ^ 32)) h
-
-length_cells : (columns : List Series) (s : Series) (g : Groups) (gs : List Group) → s.name ≡ codes "len" → s.kind ≡ uint32s → list_all (is_group (height_of columns)) gs ≡ true
-    → AreCellsOn (record { tree = len; columns = [] }) (map (rows_of_frame (alone columns)) (map (λ (p : Group). p.rows) gs)) (map (named_in (new_context true s g)) (map unit (map (λ (p : Group). Some (integer (pos (length p.rows)))) gs)))
-length_cells columns s g [] n k h = tt
-length_cells columns s g (p ∷ gs) n k h = (
+length_cells : (frame : Frame) (s : Series) (g : Groups) (gs : List Group) → s.name ≡ codes "len" → s.kind ≡ uint32s → list_all (is_group (height frame)) gs ≡ true
+    → AreCellsOn (record { tree = len; columns = [] }) (map (rows_of_frame frame) (map (λ (p : Group). p.rows) gs)) (map (named_in (new_context true s g)) (map unit (map (λ (p : Group). Some (integer (pos (length p.rows)))) gs)))
+length_cells frame s g [] n k h = tt
+length_cells frame s g (p ∷ gs) n k h = (
   record {
     sound = refl;
     name = n;
     kind = ap Some (sym k);
-    value = ap (λ m. Some (unit (count_slot m))) (row_count columns p.rows (below_of (height_of columns) p (and_left (is_group (height_of columns) p) (list_all (is_group (height_of columns)) gs) h)));
+    value = ap (λ m. Some (unit (count_slot m))) (row_count frame.columns p.rows (below_of (height frame) p (and_left (is_group (height frame) p) (list_all (is_group (height frame)) gs) h)));
     shape = refl;
   },
-  length_cells columns s g gs n k (and_right (is_group (height_of columns) p) (list_all (is_group (height_of columns)) gs) h),
+  length_cells frame s g gs n k (and_right (is_group (height frame) p) (list_all (is_group (height frame)) gs) h),
 )
 
 -- the numbers of the groups' rows are what the number of rows has on them
-pub length_context : (q : Planned) (columns : List Series) (g : Groups) (s : Series) → q ≡ record { tree = len; columns = [] } → g.height ≡ height_of columns → IsGroups g.height g.groups → s ≡ record (count_column g) { name = codes "len" }
-    → IsContextOf q (alone columns) g (new_context true s g)
-length_context q columns g s e t i m =
-    subst (λ (p : Planned). IsContextOf p (alone columns) g (new_context true s g)) (sym e)
-    (subst (λ (r : Series). IsContextOf (record { tree = len; columns = [] }) (alone columns) g (new_context true r g)) (sym m)
+pub length_context : (q : Planned) (frame : Frame) (g : Groups) (s : Series) → q ≡ record { tree = len; columns = [] } → g.height ≡ height frame → IsGroups g.height g.groups → s ≡ record (count_column g) { name = codes "len" }
+    → IsContextOf q frame g (new_context true s g)
+length_context q frame g s e t i m =
+    subst (λ (p : Planned). IsContextOf p frame g (new_context true s g)) (sym e)
+    (subst (λ (r : Series). IsContextOf (record { tree = len; columns = [] }) frame g (new_context true r g)) (sym m)
     (record {
       sound = refl;
       name = refl;
       kind = refl;
-      cells = length_cells columns (record (count_column g) { name = codes "len" }) g g.groups refl refl (subst (λ n. list_all (is_group n) g.groups ≡ true) t i.each);
+      cells = length_cells frame (record (count_column g) { name = codes "len" }) g g.groups refl refl (subst (λ n. list_all (is_group n) g.groups ≡ true) t i.each);
       shape = refl;
       count = refl;
       kept = λ u. absurd (cc u);

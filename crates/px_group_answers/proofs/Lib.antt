@@ -1,4 +1,5 @@
 pub mod Above
+pub mod Columns
 pub mod ContextsInOrder
 pub mod GroupCounts
 pub mod Leaves
@@ -10,3 +11,4 @@ pub mod Reductions
 pub mod Refusing
 pub mod Selections
 pub mod Values
+pub mod Windows

@@ -12,26 +12,26 @@ use Rattle.px_tree.specs.Cost.{is_flat_rows}
 use Rattle.px_tree.specs.Shape.{is_unit, name_of}
 use Rattle.px_tree.specs.Size.{size_on, sizes_on}
 use Rattle.px_tree.specs.Typing.{kind_in, refusals_of, refused_where}
-use Rattle.px_tree.specs.Value.{faults_on, has_misfit}
+use Rattle.px_tree.specs.Value.{faults_on}
 use Rattle.px_tree.specs.declared.context.Context.TheVariants.{Aggregation}
 use Rattle.px_context.specs.Context.{Context, cell_kind, has_units}
 use Rattle.px_group_nodes.specs.Lane.{has_lane}
 use Rattle.px_group_nodes.specs.Made.{named_cells}
 use Rattle.px_answers.specs.Parts.{plan_trees}
 use Rattle.px_answers.specs.Planned.{Planned}
-use Rattle.px_answers.specs.Value.{IsCellOf, IsOneOf, IsValue, unfound_refusal}
+use Rattle.px_answers.specs.Value.{IsCellOf, IsOneOf, IsValue, has_misfit_column, unfound_refusal}
 
 -- the frame of each group's rows
 abbrev pub group_frames : Frame → Groups → List Frame
 group_frames frame g = map (rows_of_frame frame) (rows_of g)
 
--- why an expression has no value on groups, whatever these are: it is refused there, a column node finds no column, or a column
--- beside the frame has not its height
+-- why an expression has no value on groups, whatever these are: it is refused there, or a column node finds no column, or one
+-- that has not the frame's height
 abbrev pub group_refusals : Planned → Frame → List PxError
 group_refusals p frame =
     refusals_of p.tree (scope_of frame) Aggregation
     ++ flat_map (unfound_refusal frame) p.columns
-    ++ refused_where (has_misfit p.tree frame) ShapeMismatch
+    ++ refused_where (has_misfit_column p frame) ShapeMismatch
 
 -- one of these, or a fault of a value on the frame of some group
 abbrev pub group_causes : Planned → Frame → Groups → List PxError

@@ -7,6 +7,6 @@ pub use px_arena::{
 };
 pub use px_tree::{
     AggExpr, Context, Expr, Exprs, FunctionExpr, LiteralValue, WindowMapping, WindowType,
-    are_built, has_window, is_built, is_range_type, output_name,
+    are_unchunked, has_window, is_range_type, output_name,
 };
 pub use px_typing::{type_of, type_on_groups};

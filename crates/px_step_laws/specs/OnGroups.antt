@@ -1,8 +1,7 @@
 -- An expression on groups, and in a select step on the frame of one group's rows alone.
 use Rattle.std.specs.Prelude.{◌≡◌, ℕ, List, [], ◌∷◌, option_map}
-use Rattle.px_column.specs.Prelude.{Series}
 use Rattle.px_frame.specs.Cell.{value_of_cell}
-use Rattle.px_frame.specs.External.{Frame, alone, rows_of_frame, scope_of}
+use Rattle.px_frame.specs.External.{Frame, rows_of_frame, scope_of}
 use Rattle.px_frame.specs.Spread.{column_of_cell}
 use Rattle.px_steps.specs.Plain.{agg_refusals, columns_made, frame_refusals, named_value, value_on_part}
 use Rattle.px_tree.specs.Step.{select}
@@ -23,5 +22,5 @@ IsSelectedAlone e frame part =
 -- part
 abbrev pub IsAlikeOnGroups : Tree → Type 0
 IsAlikeOnGroups e =
-    (columns : List Series) → agg_refusals (alone columns) e ≡ []
-    → (frame_refusals (alone columns) e ≡ []) × (type_of e (scope_of (alone columns)) Default ≡ type_of e (scope_of (alone columns)) Aggregation) × ((part : List ℕ) → IsSelectedAlone e (alone columns) part)
+    (frame : Frame) → agg_refusals frame e ≡ []
+    → (frame_refusals frame e ≡ []) × (type_of e (scope_of frame) Default ≡ type_of e (scope_of frame) Aggregation) × ((part : List ℕ) → IsSelectedAlone e frame part)

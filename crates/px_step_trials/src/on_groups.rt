@@ -6,7 +6,6 @@ use crate::numbers::next;
 use px_column::{ByteString, Column, GroupByMethod, Px, PxError, Steps};
 use px_expr::{
     ExpressionConversionState, PhysExpr, PhysicalExpr, create_physical_expr, evaluate_cell,
-    is_built,
 };
 use px_frame::{Cell, DataFrame, GroupPositions, GroupsType, IdxVec};
 use px_plan::{Arena, Context, Expr, ExprIR, fits_arena, to_arena};
@@ -53,7 +52,7 @@ fn document(alloc: Global) -> Result<(DataFrame, Vec<Expr>), Fail> {
 
 fn planned(alloc: Global, expr: &Expr, frame: &DataFrame) -> Px<PhysExpr> {
     let mut arena = Arena::new(alloc)?;
-    if !is_built(expr) || !fits_arena(expr, &arena) {
+    if !fits_arena(expr, &arena) {
         return Err(PxError::OutOfBounds);
     }
     let expr = ExprIR::new(to_arena(alloc, expr, &mut arena)?, None);

@@ -1,7 +1,7 @@
 //! Runs whose words are others, whose reads and writes are short or fail, and what a run is made of.
 ghost use Rattle.std.specs.Prelude.{◌≡◌, ◌<◌, map, true};
 ghost use Rattle.std.specs.List.{list_all};
-ghost use Rattle.px_tree.specs.Built.{is_built};
+ghost use Rattle.px_tree.specs.Chunks.{is_unchunked};
 ghost use Rattle.px_tree.specs.Step.{step_view};
 
 use px_column::{Name, Px, PxError, Steps};
@@ -9,8 +9,8 @@ use px_ends::{LIMIT, read_all, write_all};
 use px_frame::DataFrame;
 use px_steps::run::run;
 use px_steps::{
-    MemorySink, MemorySource, Status, StdinSource, StdoutSink, Step, error_line, frame_text,
-    read_document, run_steps,
+    Document, MemorySink, MemorySource, Status, StdinSource, StdoutSink, Step, are_unchunked,
+    error_line, frame_text, read_document, run_steps,
 };
 use px_vectors::totals;
 use px_window::ExecutionState;
@@ -23,6 +23,17 @@ const DOCUMENT: &str =
     r#"{"columns":[{"name":"k","type":"Int64","values":[7,9,7,7]},{"name":"x","type":"Int64","values":[0,1,2,3]}],"steps":[{"group":{"keys":[{"col":"k"}],"aggs":[{"agg":["Sum",{"col":"x"}]},{"len":null}],"chunks":null}}]}"#;
 
 const TEXT: &str = "[\"k\",\"x\",\"len\"]\n[\"Int64\",\"Int64\",\"UInt32\"]\n[7,5,3]\n[9,1,1]\n";
+
+/// A frame of one column.
+const OUTSIDE: &str = r#"{"columns":[{"name":"e","type":"Int64","values":[5,6,7,8]}],"steps":[]}"#;
+
+/// A select of that column and another.
+const SUM_WITH_OUTSIDE: &str =
+    r#"{"columns":[{"name":"k","type":"Int64","values":[7,9,7,7]},{"name":"x","type":"Int64","values":[0,1,2,3]}],"steps":[{"select":[{"bin":["Plus",{"col":"e"},{"col":"x"}]}]}]}"#;
+
+/// A select of that column behind a filter that leaves three rows.
+const FILTER_BEFORE_OUTSIDE: &str =
+    r#"{"columns":[{"name":"k","type":"Int64","values":[7,9,7,7]},{"name":"x","type":"Int64","values":[0,1,2,3]}],"steps":[{"filter":{"bin":["Gt",{"col":"x"},{"lit":{"type":"Int64","value":0}}]}},{"select":[{"col":"e"}]}]}"#;
 
 fn counted<L: Ledger, M: Ledger>(
     alloc: Global,
@@ -137,7 +148,7 @@ fn counted_steps<L: Ledger, M: Ledger>(
     kernels: Blank,
     groupings: Blank,
 ) -> Px<DataFrame>
-    requires built { list_all is_built (map step_view steps.now) ≡ true }
+    requires unchunked { list_all is_unchunked (map step_view steps.now) ≡ true }
     requires kernels_name { kernels.name ≡ L.name }
     requires kernels_parts { kernels.parts ≡ L.parts }
     requires kernels_some { 0 < kernels.parts }
@@ -173,6 +184,73 @@ fn no_step_gives_an_equal_frame(rt: HostRuntime) -> Result<(), Fail> {
         text.as_slice(),
         b"[\"k\",\"x\"]\n[\"Int64\",\"Int64\"]\n[7,0]\n[9,1]\n[7,2]\n[7,3]\n".as_slice()
     );
+    Ok(())
+}
+
+/// What a document's steps make, beside whose frames stands one from outside.
+fn beside_outside<L: Ledger, M: Ledger>(
+    alloc: Global,
+    document: &Document,
+    outside: DataFrame,
+    kernels: Blank,
+    groupings: Blank,
+) -> Px<DataFrame>
+    requires kernels_name { kernels.name ≡ L.name }
+    requires kernels_parts { kernels.parts ≡ L.parts }
+    requires kernels_some { 0 < kernels.parts }
+    requires groupings_name { groupings.name ≡ M.name }
+    requires groupings_parts { groupings.parts ≡ M.parts }
+    requires groupings_some { 0 < groupings.parts }
+{
+    if !are_unchunked(&document.steps) {
+        return Err(PxError::OutOfBounds);
+    }
+    let mut state = ExecutionState::new(alloc, false)?;
+    state.ext_contexts.push(outside)?;
+    let mut kernels = Steps::<L>::new(kernels);
+    let mut groupings = Steps::<M>::new(groupings);
+    run_steps(
+        alloc,
+        &document.frame,
+        &document.steps,
+        &mut state,
+        &mut kernels,
+        &mut groupings,
+    )
+}
+
+/// The same of a text that is a document, and of the frame of another.
+fn run_beside(alloc: Global, text: &str, outside: &str) -> Result<Px<DataFrame>, Fail> {
+    let document = read_document(alloc, text.as_bytes()).ok();
+    let document = document.ok_or("the text is a document")?;
+    let outside = read_document(alloc, outside.as_bytes()).ok();
+    let outside = outside.ok_or("the text is a document")?;
+    Ok(beside_outside::<Brand, Brand>(
+        alloc,
+        &document,
+        outside.frame,
+        Blank::new(1),
+        Blank::new(1),
+    ))
+}
+
+#[test]
+fn a_column_from_outside_stands_beside_the_frame(rt: HostRuntime) -> Result<(), Fail> {
+    let alloc = rt.alloc();
+    let made = run_beside(alloc, SUM_WITH_OUTSIDE, OUTSIDE)?;
+    let text = frame_text(alloc, &made?)?;
+    assert_eq!(rt;
+        text.as_slice(),
+        b"[\"e\"]\n[\"Int64\"]\n[5]\n[7]\n[9]\n[11]\n".as_slice()
+    );
+    Ok(())
+}
+
+#[test]
+fn a_column_from_outside_of_another_height_misfits(rt: HostRuntime) -> Result<(), Fail> {
+    let alloc = rt.alloc();
+    let made = run_beside(alloc, FILTER_BEFORE_OUTSIDE, OUTSIDE)?;
+    assert!(rt; matches!(made, Err(PxError::ShapeMismatch)));
     Ok(())
 }
 

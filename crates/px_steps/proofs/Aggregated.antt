@@ -15,19 +15,16 @@ use Rattle.px_value.specs.declared.error.PxError.{PxError}
 use Rattle.px_value.specs.declared.error.PxError.TheVariants.{ComputeError, OutOfMemory, ShapeMismatch}
 use Rattle.px_value.specs.declared.method.GroupByMethod.TheVariants.{Implode}
 use Rattle.px_frame.specs.Cell.{Cell, count_of, rows, value_of_cell}
-use Rattle.px_frame.specs.External.{Frame, alone, rows_of_frame}
+use Rattle.px_frame.specs.External.{Frame, rows_of_frame}
 use Rattle.px_frame.specs.Frame.{slots_at}
 use Rattle.px_frame.specs.Groups.{Group, Groups, lengths_of, rows_of}
 use Rattle.px_frame.specs.Reduced.{listed_by, reduced_by}
-use Rattle.px_frame.specs.Schema.{column_field}
 use Rattle.px_frame.specs.Spread.{NamedCell}
-use Rattle.px_tree.specs.Nodes.{leaf_names}
 use Rattle.px_tree.specs.Shape.{name_of}
 use Rattle.px_tree.specs.Size.{count_on, counts_on, size_on}
 use Rattle.px_tree.specs.Typing.{refused_where}
 use Rattle.px_tree.specs.Value.{faults_on}
 use Rattle.px_tree.specs.declared.context.Context.TheVariants.{Aggregation}
-use Rattle.px_typing.proofs.Placing.{refused_more}
 use Rattle.px_context.specs.Changes.{KeepsType, aggregated, aggregated_in, all_rows, finalized, laid_kind, with_lists}
 use Rattle.px_context.specs.Context.{Context, cell_kind, cells_in, cells_of}
 use Rattle.px_context.specs.declared.agg_state.Layout.{Layout}
@@ -37,9 +34,10 @@ use Rattle.px_answers.specs.Planned.{Planned}
 use Rattle.px_answers.specs.Value.{IsOneOf}
 use Rattle.px_group_answers.specs.OnGroups.{AreCellsOn, IsContextOf, IsGroupCause, group_causes, group_frames, group_refusals}
 use Rattle.px_group_answers.proofs.Above.{counts_in_size}
-use Rattle.px_steps.specs.Finds.{Finds, IsAccepted, Lacks, part_faults, part_frames}
+use Rattle.px_steps.specs.Finds.{Finds, IsAccepted, Lacks, agg_faults, misfit_fault, part_faults, part_frames}
 use Rattle.px_steps.specs.Plain.{aggregated_on, grouped_kind, value_on_part}
-use Rattle.px_steps.proofs.Selected.{cell_sound, leaves_found, no_misfit, refuses_or}
+use Rattle.px_steps.proofs.Selected.{cell_sound, refuses_or, swapped}
+use Rattle.px_steps.proofs.Found.{leaves_found, misfits_named}
 
 -- the values of an expression on the frames of some parts
 each_value : (p : Planned) (frame : Frame) (parts : List (List ℕ)) (cs : List NamedCell) → AreCellsOn p (part_frames frame parts) cs → each (value_on_part frame p.tree) parts ≡ Some (map (λ c. value_of_cell c.cell) cs)
@@ -103,32 +101,37 @@ laid_long c e h = by c.layout h
         longer g _ (whole_lengths c.values.slots c.groups.groups) (long_lists c.values g e (refused (listed_by c.values g) (with_lists c) k))
     by Single k = absurd (cc k)
 
+-- where an expression is not refused on groups, it is refused only for a column beside the frame that has not its height
+refused_misfit : (p : Planned) (frame : Frame) → IsAccepted p frame Aggregation → group_refusals p frame ≡ misfit_fault frame p.tree
+refused_misfit p frame a =
+    ap (λ q. group_refusals q frame) a.over
+    ∙ (λ i. (a.accepted i ++ leaves_found frame p.tree Aggregation a.accepted i) ++ refused_where (misfits_named frame p.tree Aggregation a.accepted i) ShapeMismatch)
+
 -- what an expression on groups lacks that is not refused there
-pub group_lacks : (e : PxError) (p : Planned) (cs : List Series) (g : Groups) → IsAccepted p cs Aggregation → IsGroupCause e p (alone cs) g
-    → Lacks e (part_faults (alone cs) (rows_of g) p.tree) (size_on p.tree (part_frames (alone cs) (rows_of g)))
-group_lacks e p cs g a h = by e h
+pub group_lacks : (e : PxError) (p : Planned) (frame : Frame) (g : Groups) → IsAccepted p frame Aggregation → IsGroupCause e p frame g → Lacks e (agg_faults frame (rows_of g) p.tree) (size_on p.tree (part_frames frame (rows_of g)))
+group_lacks e p frame g a h = by e h
   where
-    none : group_refusals p (alone cs) ≡ []
-    none =
-        ap (λ q. group_refusals q (alone cs)) a.over
-        ∙ (λ i. (a.accepted i ++ leaves_found cs p.tree a.built (refused_more p.tree (map column_field cs) a.accepted) i) ++ refused_where (no_misfit cs (leaf_names p.tree) i) ShapeMismatch)
+    faults : group_causes p frame g ≡ misfit_fault frame p.tree ++ part_faults frame (rows_of g) p.tree
+    faults =
+        ap (λ (es : List PxError). es ++ flat_map (faults_on p.tree) (group_frames frame g)) (refused_misfit p frame a)
+        ∙ ap (λ es. misfit_fault frame p.tree ++ es) (flat_map-map (faults_on p.tree) (rows_of_frame frame) (rows_of g))
 
-    faults : group_causes p (alone cs) g ≡ part_faults (alone cs) (rows_of g) p.tree
-    faults = ap (λ (es : List PxError). es ++ flat_map (faults_on p.tree) (group_frames (alone cs) g)) none ∙ flat_map-map (faults_on p.tree) (rows_of_frame (alone cs)) (rows_of g)
-
-    by : (e : PxError) → IsGroupCause e p (alone cs) g → Lacks e (part_faults (alone cs) (rows_of g) p.tree) (size_on p.tree (part_frames (alone cs) (rows_of g)))
+    by : (e : PxError) → IsGroupCause e p frame g → Lacks e (agg_faults frame (rows_of g) p.tree) (size_on p.tree (part_frames frame (rows_of g)))
     by OutOfMemory h = inl refl
     by (ComputeError TooLong) h = inr (inr (refl, h))
-    by e h = inr (inl (subst (IsOneOf e) faults h))
+    by e h = inr (inl (swapped e (misfit_fault frame p.tree) (part_faults frame (rows_of g) p.tree) (subst (IsOneOf e) faults h)))
 
 -- the column that is laid out of an aggregation's context
-pub column_finds : (p : Planned) (cs : List Series) (g : Groups) (c d : Context) (r : Result Series PxError) → IsContextOf p (alone cs) g c → Answers r (finalized c) → IfOk r (λ s. s.slots ≡ map value_of_cell (cells_of c))
+pub column_finds : (p : Planned) (frame : Frame) (g : Groups) (c d : Context) (r : Result Series PxError) → IsAccepted p frame Aggregation → IsContextOf p frame g c → Answers r (finalized c) → IfOk r (λ s. s.slots ≡ map value_of_cell (cells_of c))
     → IfOk r (λ s. s.kind ≡ laid_kind c) → OnOk r (aggregated c ≡ Ok d) → KeepsType c d
-    → Finds r (aggregated_on (alone cs) (rows_of g) p.tree) (part_faults (alone cs) (rows_of g) p.tree) (size_on p.tree (part_frames (alone cs) (rows_of g)))
-column_finds p cs g c d (Ok s) is a slots kind laid types = (each_sound p (alone cs) (rows_of g) (named_cells c) is.cells, meant)
+    → Finds r (aggregated_on frame (rows_of g) p.tree) (agg_faults frame (rows_of g) p.tree) (size_on p.tree (part_frames frame (rows_of g)))
+column_finds p frame g c d (Ok s) ok is a slots kind laid types = (λ i. each_sound p frame (rows_of g) (named_cells c) is.cells i ++ fits i, meant)
   where
-    values : each (value_on_part (alone cs) p.tree) (rows_of g) ≡ Some s.slots
-    values = each_value p (alone cs) (rows_of g) (named_cells c) is.cells ∙ ap Some (unnamed value_of_cell c (cells_of c) ∙ sym slots)
+    fits : misfit_fault frame p.tree ≡ []
+    fits = sym (refused_misfit p frame ok) ∙ is.sound
+
+    values : each (value_on_part frame p.tree) (rows_of g) ≡ Some s.slots
+    values = each_value p frame (rows_of g) (named_cells c) is.cells ∙ ap Some (unnamed value_of_cell c (cells_of c) ∙ sym slots)
 
     column : d.values ≡ s
     column =
@@ -141,19 +144,19 @@ column_finds p cs g c d (Ok s) is a slots kind laid types = (each_sound p (alone
     type : grouped_kind p.tree (cell_kind c) ≡ s.kind
     type = (λ i. if sym is.shape i then cell_kind c else lists (cell_kind c)) ∙ sym kind
 
-    meant : aggregated_on (alone cs) (rows_of g) p.tree ≡ Some s
+    meant : aggregated_on frame (rows_of g) p.tree ≡ Some s
     meant =
-        ap (λ o. option_and_then (λ k. option_and_then (λ vs. Some (record { name = name_of p.tree; kind = grouped_kind p.tree k; slots = vs })) (each (value_on_part (alone cs) p.tree) (rows_of g))) o) is.kind
+        ap (λ o. option_and_then (λ k. option_and_then (λ vs. Some (record { name = name_of p.tree; kind = grouped_kind p.tree k; slots = vs })) (each (value_on_part frame p.tree) (rows_of g))) o) is.kind
         ∙ ap (λ o. option_and_then (λ vs. Some (record { name = name_of p.tree; kind = grouped_kind p.tree (cell_kind c); slots = vs })) o) values
         ∙ (λ i. Some (record { name = name i; kind = type i; slots = s.slots }))
-column_finds p cs g c d (Err e) is a slots kind laid types = by (refuses_or e (finalized c) a)
+column_finds p frame g c d (Err e) ok is a slots kind laid types = by (refuses_or e (finalized c) a)
   where
-    counts : sum (map count_of (cells_of c)) ≡ counts_on p.tree (group_frames (alone cs) g)
-    counts = ap sum (sym (unnamed count_of c (cells_of c)) ∙ each_counted p (group_frames (alone cs) g) (named_cells c) is.cells)
+    counts : sum (map count_of (cells_of c)) ≡ counts_on p.tree (group_frames frame g)
+    counts = ap sum (sym (unnamed count_of c (cells_of c)) ∙ each_counted p (group_frames frame g) (named_cells c) is.cells)
 
-    by : (e ≡ OutOfMemory) ⊎ (finalized c ≡ Err e) → Lacks e (part_faults (alone cs) (rows_of g) p.tree) (size_on p.tree (part_frames (alone cs) (rows_of g)))
+    by : (e ≡ OutOfMemory) ⊎ (finalized c ≡ Err e) → Lacks e (agg_faults frame (rows_of g) p.tree) (size_on p.tree (part_frames frame (rows_of g)))
     by (inl m) = inl m
     by (inr f) =
         let long = laid_long c e f in
-        let more = counts_in_size p.tree (group_frames (alone cs) g) in
+        let more = counts_in_size p.tree (group_frames frame g) in
         inr (inr (long.0, omega (arith, long.1, counts, more)))

@@ -15,11 +15,10 @@ use Rattle.px_answers.specs.Planned.{Planned}
 use Rattle.px_answers.specs.Value.{IsCause, IsOneOf}
 use Rattle.px_frame.specs.Aggregate.{key_column}
 use Rattle.px_frame.specs.Cell.{Cell, unit, rows}
-use Rattle.px_frame.specs.External.{Frame, alone, height, rows_of_frame, scope_of}
+use Rattle.px_frame.specs.External.{Frame, height, rows_of_frame, scope_of}
 use Rattle.px_frame.specs.Frame.{all_have_height, first_repeat, frame_of, has_height, height_of, is_even, names_of, name_eq, unless_repeated}
 use Rattle.px_frame.specs.Groups.{Groups, groups_by, rows_of}
 use Rattle.px_frame.specs.Parts.{parts_of}
-use Rattle.px_frame.specs.Schema.{column_field}
 use Rattle.px_frame.specs.Spread.{NamedCell, spread, spread_column, with_slots}
 use Rattle.px_tree.specs.Shape.{name_of}
 use Rattle.px_tree.specs.Size.{size_on}
@@ -31,16 +30,17 @@ use Rattle.px_tree.specs.Value.{faults_on, value_on}
 use Rattle.px_tree.specs.declared.context.Context.TheVariants.{Aggregation, Default}
 use Rattle.px_steps.specs.Finds.{is_key}
 use Rattle.px_steps.specs.Causes.{IsStepCause, StepAnswers}
-use Rattle.px_steps.specs.Finds.{Finds, IsAccepted, Lacks, key_faults, part_faults, part_frames, repeat_beside, typed_key_refusals}
+use Rattle.px_steps.specs.Finds.{Finds, IsAccepted, Lacks, agg_faults, key_faults, misfit_fault, part_faults, part_frames, repeat_beside, typed_group_refusals, typed_key_refusals}
 use Rattle.px_document.specs.Form.{with_front}
 use Rattle.px_steps.specs.Meets.{IsFirst}
-use Rattle.px_steps.specs.Plain.{agg_refusals, aggregated_on, columns_on, first_of, frame_refusals, frames_by, greatest, grouped_kind, height_fault, key_on, key_refusals, key_values, named_value, no_key_refusal, refused_by, repeat_refusal, step_faults, step_refusals, value_on_part, group_frames}
+use Rattle.px_steps.specs.Plain.{agg_refusals, aggregated_on, columns_on, first_of, frame_refusals, frames_by, greatest, grouped_kind, height_fault, key_on, key_refusals, key_values, named_value, no_key_refusal, refused_by, repeat_refusal, step_faults, step_refusals, value_on_part, group_frames, misfit_faults, with_columns}
 use Rattle.px_tree.specs.Step.{group}
 use Rattle.px_steps.proofs.Columns.{all_true, and_then_some, heights_of_keys, keys_of_groups, names_of_keys, rows_of_groups}
 use Rattle.px_frame.proofs.LookLaws.{has_length}
 use Rattle.px_frame.proofs.LookLaws.{even_from}
 use Rattle.px_steps.proofs.Grouping.{accepted_lacks, no_refusal, value_there}
-use Rattle.px_steps.proofs.Selected.{name_kept, no_misfits, once_none, one_left, one_right, refuses_or}
+use Rattle.px_steps.proofs.Selected.{name_kept, once_none, refusal_cause, refuses_or}
+use Rattle.px_steps.proofs.Misfits.{faults_apart, faults_sound, misfit_aggs, misfit_keys, no_misfits, no_misfits_both, one_apart, one_left, one_right}
 use Rattle.px_steps.proofs.Named.{IsFirst_append}
 use Rattle.px_tree.proofs.KindLaws.{none_left as nil_left, none_right as nil_right}
 use Rattle.std.proofs.lemmas.List.{append-nil as append_nil, map-append as map_append}
@@ -135,27 +135,27 @@ no_list_refusal k (Some j) e q h = let same : j ≡ k = cc in ap is_list_kind (s
     by false h = refl
 
 -- a key that is not refused groups the frame
-key_fits : (cs : List Series) (t : Tree) (s : Series) → key_refusals (alone cs) t ≡ [] → key_on (alone cs) t ≡ Some s → is_key cs s ≡ true
-key_fits cs t s n h =
-    let first = and_then_some (named_value (alone cs) t) (λ c. result_ok (spread_column (height_of cs) c)) s h in
-    let made = spread_made (height_of cs) first.0 s first.2 in
-    let there = value_there (alone cs) t first.0 first.1 in
+key_fits : (frame : Frame) (t : Tree) (s : Series) → key_refusals frame t ≡ [] → key_on frame t ≡ Some s → is_key frame.columns s ≡ true
+key_fits frame t s n h =
+    let first = and_then_some (named_value frame t) (λ c. result_ok (spread_column (height frame) c)) s h in
+    let made = spread_made (height frame) first.0 s first.2 in
+    let there = value_there frame t first.0 first.1 in
     let plain : is_list_kind s.kind ≡ false
-    = ap is_list_kind made.1 ∙ no_list_refusal first.0.kind (kind_in t (scope_of (alone cs))) (InvalidOperation ListKey) there.1 (nil_right (refusals_of t (scope_of (alone cs)) Default) _ n) in
-    λ i. not (plain i) && has_length (height_of cs) s made.2 i
+    = ap is_list_kind made.1 ∙ no_list_refusal first.0.kind (kind_in t (scope_of frame)) (InvalidOperation ListKey) there.1 (nil_right (refusals_of t (scope_of frame) Default) _ n) in
+    λ i. not (plain i) && has_length (height frame) s made.2 i
 
-pub keys_fit : (cs : List Series) (ts : List Tree) (by : List Series) → flat_map (key_refusals (alone cs)) ts ≡ [] → each (key_on (alone cs)) ts ≡ Some by → list_all (is_key cs) by ≡ true
-keys_fit cs [] by n h = let none : by ≡ [] = cc in ap (list_all (is_key cs)) none
-keys_fit cs (t ∷ ts) by n h =
-    let rest = nil_right (key_refusals (alone cs) t) (flat_map (key_refusals (alone cs)) ts) n in
-    made (key_on (alone cs) t) refl (each (key_on (alone cs)) ts) (λ ss. keys_fit cs ts ss rest) h
+pub keys_fit : (frame : Frame) (ts : List Tree) (by : List Series) → flat_map (key_refusals frame) ts ≡ [] → each (key_on frame) ts ≡ Some by → list_all (is_key frame.columns) by ≡ true
+keys_fit frame [] by n h = let none : by ≡ [] = cc in ap (list_all (is_key frame.columns)) none
+keys_fit frame (t ∷ ts) by n h =
+    let rest = nil_right (key_refusals frame t) (flat_map (key_refusals frame) ts) n in
+    made (key_on frame t) refl (each (key_on frame) ts) (λ ss. keys_fit frame ts ss rest) h
   where
-    made : (o : Option Series) → key_on (alone cs) t ≡ o → (rest : Option (List Series)) → ((ss : List Series) → rest ≡ Some ss → list_all (is_key cs) ss ≡ true) → option_and_then (λ y. option_map (λ zs. y ∷ zs) rest) o ≡ Some by → list_all (is_key cs) by ≡ true
+    made : (o : Option Series) → key_on frame t ≡ o → (rest : Option (List Series)) → ((ss : List Series) → rest ≡ Some ss → list_all (is_key frame.columns) ss ≡ true) → option_and_then (λ y. option_map (λ zs. y ∷ zs) rest) o ≡ Some by → list_all (is_key frame.columns) by ≡ true
     made None p rest fit e = cc
     made (Some s) p None fit e = cc
     made (Some s) p (Some ss) fit e =
         let same : s ∷ ss ≡ by = cc in
-        ap (list_all (is_key cs)) (sym same) ∙ (λ i. key_fits cs t s (nil_left (key_refusals (alone cs) t) (flat_map (key_refusals (alone cs)) ts) n) p i && fit ss refl i)
+        ap (list_all (is_key frame.columns)) (sym same) ∙ (λ i. key_fits frame t s (nil_left (key_refusals frame t) (flat_map (key_refusals frame) ts) n) p i && fit ss refl i)
 
 -- an aggregation's column has its name, and a row for each part
 aggregated_seen : (frame : Frame) (ps : List (List ℕ)) (t : Tree) (c : Series) → aggregated_on frame ps t ≡ Some c → (c.name ≡ name_of t) × (length c.slots ≡ length ps)
@@ -218,29 +218,24 @@ flat_map-same f g (x ∷ xs) h = λ i. h x i ++ flat_map-same f g xs h i
 parts_same : (frame : Frame) (ps : List (List ℕ)) (ts : List Tree) → flat_map (λ e. flat_map (faults_on e) (map (rows_of_frame frame) ps)) ts ≡ flat_map (part_faults frame ps) ts
 parts_same frame ps ts = flat_map-same _ (part_faults frame ps) ts (λ e. flat_map-map (faults_on e) (rows_of_frame frame) ps)
 
+-- the faults of an expression's value and of its height
+abbrev spread_faults : Frame → Tree → List PxError
+spread_faults frame e = faults_on e frame ++ height_fault frame (value_on e frame)
+
 -- the faults of keys, each value's before each height's
-keys_sound : (frame : Frame) (ts : List Tree) → flat_map (key_faults frame) ts ≡ [] → (flat_map (λ e. faults_on e frame) ts ≡ []) × (flat_map (λ e. height_fault frame (value_on e frame)) ts ≡ [])
+keys_sound : (frame : Frame) (ts : List Tree) → flat_map (spread_faults frame) ts ≡ [] → (flat_map (λ e. faults_on e frame) ts ≡ []) × (flat_map (λ e. height_fault frame (value_on e frame)) ts ≡ [])
 keys_sound frame [] h = (refl, refl)
 keys_sound frame (t ∷ ts) h =
-    let own = nil_left (key_faults frame t) (flat_map (key_faults frame) ts) h in
-    let rest = keys_sound frame ts (nil_right (key_faults frame t) (flat_map (key_faults frame) ts) h) in
+    let own = nil_left (spread_faults frame t) (flat_map (spread_faults frame) ts) h in
+    let rest = keys_sound frame ts (nil_right (spread_faults frame t) (flat_map (spread_faults frame) ts) h) in
     let values = nil_left (faults_on t frame) (height_fault frame (value_on t frame)) own in
     let heights = nil_right (faults_on t frame) (height_fault frame (value_on t frame)) own in
     (λ i. values i ++ rest.0 i, λ i. heights i ++ rest.1 i)
 
-one_apart : (e : PxError) (xs ys : List PxError) → IsOneOf e (xs ++ ys) → IsOneOf e xs ⊎ IsOneOf e ys
-one_apart e [] ys h = inr h
-one_apart e (x ∷ xs) ys (inl s) = inl (inl s)
-one_apart e (x ∷ xs) ys (inr h) = by (one_apart e xs ys h)
-  where
-    by : IsOneOf e xs ⊎ IsOneOf e ys → IsOneOf e (x ∷ xs) ⊎ IsOneOf e ys
-    by (inl o) = inl (inr o)
-    by (inr o) = inr o
-
-key_fault_apart : (e : PxError) (frame : Frame) (ts : List Tree) → IsOneOf e (flat_map (key_faults frame) ts)
+key_fault_apart : (e : PxError) (frame : Frame) (ts : List Tree) → IsOneOf e (flat_map (spread_faults frame) ts)
     → IsOneOf e (flat_map (λ t. faults_on t frame) ts) ⊎ IsOneOf e (flat_map (λ t. height_fault frame (value_on t frame)) ts)
 key_fault_apart e frame [] h = absurd h
-key_fault_apart e frame (t ∷ ts) h = by (one_apart e (key_faults frame t) (flat_map (key_faults frame) ts) h) (key_fault_apart e frame ts)
+key_fault_apart e frame (t ∷ ts) h = by (one_apart e (spread_faults frame t) (flat_map (spread_faults frame) ts) h) (key_fault_apart e frame ts)
   where
     own : IsOneOf e (faults_on t frame) ⊎ IsOneOf e (height_fault frame (value_on t frame)) → IsOneOf e (flat_map (λ t. faults_on t frame) (t ∷ ts)) ⊎ IsOneOf e (flat_map (λ t. height_fault frame (value_on t frame)) (t ∷ ts))
     own (inl o) = inl (one_left e (faults_on t frame) (flat_map (λ t. faults_on t frame) ts) o)
@@ -250,65 +245,79 @@ key_fault_apart e frame (t ∷ ts) h = by (one_apart e (key_faults frame t) (fla
     rest (inl o) = inl (one_right e (faults_on t frame) (flat_map (λ t. faults_on t frame) ts) o)
     rest (inr o) = inr (one_right e (height_fault frame (value_on t frame)) (flat_map (λ t. height_fault frame (value_on t frame)) ts) o)
 
-    by : IsOneOf e (key_faults frame t) ⊎ IsOneOf e (flat_map (key_faults frame) ts)
-        → (IsOneOf e (flat_map (key_faults frame) ts) → IsOneOf e (flat_map (λ t. faults_on t frame) ts) ⊎ IsOneOf e (flat_map (λ t. height_fault frame (value_on t frame)) ts))
+    by : IsOneOf e (spread_faults frame t) ⊎ IsOneOf e (flat_map (spread_faults frame) ts)
+        → (IsOneOf e (flat_map (spread_faults frame) ts) → IsOneOf e (flat_map (λ t. faults_on t frame) ts) ⊎ IsOneOf e (flat_map (λ t. height_fault frame (value_on t frame)) ts))
         → IsOneOf e (flat_map (λ t. faults_on t frame) (t ∷ ts)) ⊎ IsOneOf e (flat_map (λ t. height_fault frame (value_on t frame)) (t ∷ ts))
     by (inl o) more = own (one_apart e (faults_on t frame) (height_fault frame (value_on t frame)) o)
     by (inr o) more = rest (more o)
 
 -- a group step that is not refused
-module _ (cs : List Series) (keys aggs : List Tree) (none : step_refusals (group keys aggs None) (alone cs) ≡ []) where
-  accepted : first_of (step_refusals (group keys aggs None) (alone cs)) ≡ None
+module _ (frame : Frame) (keys aggs : List Tree) (none : step_refusals (group keys aggs None) frame ≡ []) where
+  accepted : first_of (step_refusals (group keys aggs None) frame) ≡ None
   accepted = ap first_of none
 
-  fault_told : (e : PxError) → IsOneOf e (step_faults (group keys aggs None) (alone cs)) → (e ≡ OutOfMemory) ⊎ IsStepCause e (group keys aggs None) (alone cs)
+  fault_told : (e : PxError) → IsOneOf e (step_faults (group keys aggs None) frame) → (e ≡ OutOfMemory) ⊎ IsStepCause e (group keys aggs None) frame
   fault_told e o = inr (inr (accepted, inl o))
 
   abbrev key_values_faults : List PxError
-  key_values_faults = flat_map (λ t. faults_on t (alone cs)) keys
+  key_values_faults = flat_map (λ t. faults_on t frame) keys
 
   abbrev key_height_faults : List PxError
-  key_height_faults = flat_map (λ t. height_fault (alone cs) (value_on t (alone cs))) keys
+  key_height_faults = flat_map (λ t. height_fault frame (value_on t frame)) keys
 
   abbrev part_value_faults : List PxError
-  part_value_faults = flat_map (λ t. flat_map (faults_on t) (frames_by (alone cs) keys)) aggs
+  part_value_faults = flat_map (λ t. flat_map (faults_on t) (frames_by frame keys)) aggs
+
+  abbrev before_misfits : List PxError
+  before_misfits = (key_values_faults ++ key_height_faults) ++ part_value_faults
+
+  misfit_told : (e : PxError) → IsOneOf e (misfit_faults frame (keys ++ aggs)) → (e ≡ OutOfMemory) ⊎ IsStepCause e (group keys aggs None) frame
+  misfit_told e o = fault_told e (one_right e before_misfits (misfit_faults frame (keys ++ aggs)) o)
 
   -- why its keys have no columns
-  pub key_cause : (e : PxError) → Lacks e (flat_map (key_faults (alone cs)) keys) (greatest (map (λ t. size_on t (alone cs ∷ [])) keys)) → (e ≡ OutOfMemory) ⊎ IsStepCause e (group keys aggs None) (alone cs)
+  pub key_cause : (e : PxError) → Lacks e (flat_map (key_faults frame) keys) (greatest (map (λ t. size_on t (frame ∷ [])) keys)) → (e ≡ OutOfMemory) ⊎ IsStepCause e (group keys aggs None) frame
   key_cause e (inl m) = inl m
   key_cause e (inr (inr l)) = inr (inr (accepted, inr (l.0, omega (arith, l.1))))
-  key_cause e (inr (inl o)) = by (key_fault_apart e (alone cs) keys o)
+  key_cause e (inr (inl o)) = told (faults_apart frame (spread_faults frame) e keys o)
     where
-      by : IsOneOf e key_values_faults ⊎ IsOneOf e key_height_faults → (e ≡ OutOfMemory) ⊎ IsStepCause e (group keys aggs None) (alone cs)
-      by (inl v) = fault_told e (one_left e ((key_values_faults ++ key_height_faults) ++ part_value_faults) _ (one_left e (key_values_faults ++ key_height_faults) part_value_faults (one_left e key_values_faults key_height_faults v)))
-      by (inr h) = fault_told e (one_left e ((key_values_faults ++ key_height_faults) ++ part_value_faults) _ (one_left e (key_values_faults ++ key_height_faults) part_value_faults (one_right e key_values_faults key_height_faults h)))
+      by : IsOneOf e key_values_faults ⊎ IsOneOf e key_height_faults → (e ≡ OutOfMemory) ⊎ IsStepCause e (group keys aggs None) frame
+      by (inl v) = fault_told e (one_left e before_misfits _ (one_left e (key_values_faults ++ key_height_faults) part_value_faults (one_left e key_values_faults key_height_faults v)))
+      by (inr h) = fault_told e (one_left e before_misfits _ (one_left e (key_values_faults ++ key_height_faults) part_value_faults (one_right e key_values_faults key_height_faults h)))
+
+      told : IsOneOf e (flat_map (spread_faults frame) keys) ⊎ IsOneOf e (misfit_faults frame keys) → (e ≡ OutOfMemory) ⊎ IsStepCause e (group keys aggs None) frame
+      told (inl v) = by (key_fault_apart e frame keys v)
+      told (inr m) = misfit_told e (misfit_keys frame e keys aggs m)
 
   -- what it answers, where its keys have columns
-  module _ (by : List Series) (made : each (key_on (alone cs)) keys ≡ Some by) where
-    frames : frames_by (alone cs) keys ≡ part_frames (alone cs) (parts_of by (height_of cs))
-    frames = ap (group_frames (alone cs)) made
+  module _ (by : List Series) (made : each (key_on frame) keys ≡ Some by) where
+    frames : frames_by frame keys ≡ part_frames frame (parts_of by (height frame))
+    frames = ap (group_frames frame) made
 
-    agg_faults : flat_map (λ t. flat_map (faults_on t) (frames_by (alone cs) keys)) aggs ≡ flat_map (part_faults (alone cs) (parts_of by (height_of cs))) aggs
-    agg_faults = ap (λ (fs : List Frame). flat_map (λ t. flat_map (faults_on t) fs) aggs) frames ∙ parts_same (alone cs) (parts_of by (height_of cs)) aggs
+    on_parts : flat_map (λ t. flat_map (faults_on t) (frames_by frame keys)) aggs ≡ flat_map (part_faults frame (parts_of by (height frame))) aggs
+    on_parts = ap (λ (fs : List Frame). flat_map (λ t. flat_map (faults_on t) fs) aggs) frames ∙ parts_same frame (parts_of by (height frame)) aggs
 
-    pub group_answer : (r : Result (List Series) PxError) → flat_map (key_faults (alone cs)) keys ≡ []
-        → Finds r (columns_on (alone cs) aggs by) (flat_map (part_faults (alone cs) (parts_of by (height_of cs))) aggs) (greatest (map (λ t. size_on t (part_frames (alone cs) (parts_of by (height_of cs)))) aggs))
-        → IfOk r (λ f. height_of f < 2 ^ 32) → StepAnswers r (group keys aggs None) cs
+    agg_told : (e : PxError) → IsOneOf e (flat_map (part_faults frame (parts_of by (height frame))) aggs) ⊎ IsOneOf e (misfit_faults frame aggs) → (e ≡ OutOfMemory) ⊎ IsStepCause e (group keys aggs None) frame
+    agg_told e (inl o) = fault_told e (one_left e before_misfits _ (one_right e (key_values_faults ++ key_height_faults) part_value_faults (subst (IsOneOf e) (sym on_parts) o)))
+    agg_told e (inr m) = misfit_told e (misfit_aggs frame e keys aggs m)
+
+    pub group_answer : (r : Result (List Series) PxError) → flat_map (key_faults frame) keys ≡ []
+        → Finds r (columns_on frame aggs by) (flat_map (agg_faults frame (parts_of by (height frame))) aggs) (greatest (map (λ t. size_on t (part_frames frame (parts_of by (height frame)))) aggs))
+        → IfOk r (λ f. height_of f < 2 ^ 32) → StepAnswers r (group keys aggs None) frame
     group_answer (Ok f) sound h short =
-        let k = keys_sound (alone cs) keys sound in
+        let ks = faults_sound frame (spread_faults frame) keys sound in
+        let k = keys_sound frame keys ks.0 in
+        let a = faults_sound frame (part_faults frame (parts_of by (height frame))) aggs h.0 in
+        let fits = no_misfits_both frame keys aggs (no_misfits frame keys ks.1) (no_misfits frame aggs a.1) in
         record {
           accepted = accepted;
-          sound = λ i. ((k.0 i ++ k.1 i) ++ (agg_faults ∙ h.0) i) ++ no_misfits cs (keys ++ aggs) i;
-          made =
-              ap (λ o. option_map (λ columns. record (alone cs) { columns = columns }) (option_and_then (columns_on (alone cs) aggs) o)) made
-              ∙ ap (λ o. option_map (λ columns. record (alone cs) { columns = columns }) o) h.1;
+          sound = λ i. ((k.0 i ++ k.1 i) ++ (on_parts ∙ a.0) i) ++ fits i;
+          made = ap (λ o. option_map (with_columns frame) (option_and_then (columns_on frame aggs) o)) made ∙ ap (λ o. option_map (with_columns frame) o) h.1;
           short = short;
         }
     group_answer (Err e) sound (inl m) short = inl m
-    group_answer (Err e) sound (inr (inl o)) short =
-        fault_told e (one_left e ((key_values_faults ++ key_height_faults) ++ part_value_faults) _ (one_right e (key_values_faults ++ key_height_faults) part_value_faults (subst (IsOneOf e) (sym agg_faults) o)))
+    group_answer (Err e) sound (inr (inl o)) short = agg_told e (faults_apart frame (part_faults frame (parts_of by (height frame))) e aggs o)
     group_answer (Err e) sound (inr (inr l)) short =
-        let size : greatest (map (λ t. size_on t (frames_by (alone cs) keys)) aggs) ≡ greatest (map (λ t. size_on t (part_frames (alone cs) (parts_of by (height_of cs)))) aggs) = ap (λ (fs : List Frame). greatest (map (λ t. size_on t fs) aggs)) frames in
+        let size : greatest (map (λ t. size_on t (frames_by frame keys)) aggs) ≡ greatest (map (λ t. size_on t (part_frames frame (parts_of by (height frame)))) aggs) = ap (λ (fs : List Frame). greatest (map (λ t. size_on t fs) aggs)) frames in
         inr (inr (accepted, inr (l.0, omega (arith, l.1, size))))
 
 -- the refusals of a step's parts, where it has none
@@ -347,31 +356,35 @@ pub names_once : (frame : Frame) (keys aggs : List Tree) (by : List Series) → 
 names_once frame keys aggs by h made =
     (λ i. first_repeat [] (key_names frame keys by made i ++ map name_of aggs)) ∙ ap (first_repeat []) (sym (map_append name_of keys aggs)) ∙ once_none (first_repeat [] (map name_of (keys ++ aggs))) h
 
-lacks_left : (e : PxError) (xs ys : List PxError) (n : ℕ) → Lacks e xs n → Lacks e (xs ++ ys) n
-lacks_left e xs ys n (inl m) = inl m
-lacks_left e xs ys n (inr (inl o)) = inr (inl (one_left e xs ys o))
-lacks_left e xs ys n (inr (inr l)) = inr (inr l)
+-- what lacks among some faults lacks among more
+lacks_between : (e : PxError) (xs ys zs : List PxError) (n : ℕ) → Lacks e (xs ++ zs) n → Lacks e ((xs ++ ys) ++ zs) n
+lacks_between e xs ys zs n (inl m) = inl m
+lacks_between e xs ys zs n (inr (inl o)) = by (one_apart e xs zs o)
+  where
+    by : IsOneOf e xs ⊎ IsOneOf e zs → Lacks e ((xs ++ ys) ++ zs) n
+    by (inl x) = inr (inl (one_left e (xs ++ ys) zs (one_left e xs ys x)))
+    by (inr z) = inr (inl (one_right e (xs ++ ys) zs z))
+lacks_between e xs ys zs n (inr (inr l)) = inr (inr l)
 
 -- why a key has no value
-pub key_lacks : (e : PxError) (p : Planned) (cs : List Series) → IsAccepted p cs Default → IsCause e p (alone cs) → Lacks e (key_faults (alone cs) p.tree) (size_on p.tree (alone cs ∷ []))
-key_lacks e p cs a c = lacks_left e (faults_on p.tree (alone cs)) (height_fault (alone cs) (value_on p.tree (alone cs))) _ (accepted_lacks e p cs a c)
+pub key_lacks : (e : PxError) (p : Planned) (frame : Frame) → IsAccepted p frame Default → IsCause e p frame → Lacks e (key_faults frame p.tree) (size_on p.tree (frame ∷ []))
+key_lacks e p frame a c = lacks_between e (faults_on p.tree frame) (height_fault frame (value_on p.tree frame)) (misfit_fault frame p.tree) _ (accepted_lacks e p frame a c)
 
 -- a key's value as a column, or its fault where it has not the frame's height
-pub key_finds : (cs : List Series) (t : Tree) (c : NamedCell) (r : Result Series PxError) (n : ℕ) → named_value (alone cs) t ≡ Some c → faults_on t (alone cs) ≡ [] → Answers r (spread_column (height_of cs) c)
-    → Finds r (key_on (alone cs) t) (key_faults (alone cs) t) n
-key_finds cs t c r n value sound a =
-    let F = alone cs in
-    let meant : key_on F t ≡ result_ok (with_slots c (spread (height_of cs) c.cell)) = ap (λ o. option_and_then (λ x. result_ok (spread_column (height_of cs) x)) o) value in
-    let faults : key_faults F t ≡ faults_on t F ++ refused_by (spread (height_of cs) c.cell) = ap (λ o. faults_on t F ++ height_fault F o) (value_there F t c value).0 in
+pub key_finds : (F : Frame) (t : Tree) (c : NamedCell) (r : Result Series PxError) (n : ℕ) → named_value F t ≡ Some c → faults_on t F ≡ [] → misfit_fault F t ≡ [] → Answers r (spread_column (height F) c)
+    → Finds r (key_on F t) (key_faults F t) n
+key_finds F t c r n value sound fit a =
+    let meant : key_on F t ≡ result_ok (with_slots c (spread (height F) c.cell)) = ap (λ o. option_and_then (λ x. result_ok (spread_column (height F) x)) o) value in
+    let faults : key_faults F t ≡ (faults_on t F ++ refused_by (spread (height F) c.cell)) ++ misfit_fault F t = ap (λ o. (faults_on t F ++ height_fault F o) ++ misfit_fault F t) (value_there F t c value).0 in
     subst (λ (o : Option Series). Finds r o (key_faults F t) n) (sym meant)
-    (subst (λ (es : List PxError). Finds r (result_ok (with_slots c (spread (height_of cs) c.cell))) es n) (sym faults) (by (spread (height_of cs) c.cell) r a))
+    (subst (λ (es : List PxError). Finds r (result_ok (with_slots c (spread (height F) c.cell))) es n) (sym faults) (by (spread (height F) c.cell) r a))
   where
-    refused : (e f : PxError) → (e ≡ OutOfMemory) ⊎ ◌≡◌ {A = Result Series PxError} (Err f) (Err e) → Lacks e (faults_on t (alone cs) ++ f ∷ []) n
+    refused : (e f : PxError) → (e ≡ OutOfMemory) ⊎ ◌≡◌ {A = Result Series PxError} (Err f) (Err e) → Lacks e ((faults_on t F ++ f ∷ []) ++ misfit_fault F t) n
     refused e f (inl m) = inl m
-    refused e f (inr s) = let same : f ≡ e = cc in inr (inl (one_right e (faults_on t (alone cs)) (f ∷ []) (inl (sym same))))
+    refused e f (inr s) = let same : f ≡ e = cc in inr (inl (one_left e (faults_on t F ++ f ∷ []) (misfit_fault F t) (one_right e (faults_on t F) (f ∷ []) (inl (sym same)))))
 
-    by : (q : Result (List Slot) PxError) (r : Result Series PxError) → Answers r (with_slots c q) → Finds r (result_ok (with_slots c q)) (faults_on t (alone cs) ++ refused_by q) n
-    by (Ok xs) (Ok s) b = let same : record { name = c.name; kind = c.kind; slots = xs } ≡ s = cc in ((λ i. sound i ++ []), ap Some same)
+    by : (q : Result (List Slot) PxError) (r : Result Series PxError) → Answers r (with_slots c q) → Finds r (result_ok (with_slots c q)) ((faults_on t F ++ refused_by q) ++ misfit_fault F t) n
+    by (Ok xs) (Ok s) b = let same : record { name = c.name; kind = c.kind; slots = xs } ≡ s = cc in ((λ i. (sound i ++ []) ++ fit i), ap Some same)
     by (Ok xs) (Err e) b = inl (no_refusal e (Ok (record { name = c.name; kind = c.kind; slots = xs })) _ refl b)
     by (Err f) (Ok s) b = cc
     by (Err f) (Err e) b = refused e f (refuses_or e (Err f) b)
@@ -383,51 +396,55 @@ no_length : (n : ℕ) → (n == 0) ≡ true → n ≡ 0
 no_length n h = grind (arith, nat_tests)
 
 -- the first refusal of a step: there is no key, or the keys', the aggregations' or the names' first one
-pub key_missing : (keys : List Expr) (aggs : List Tree) (frame : Frame) → (length keys == 0) ≡ true → first_of (step_refusals (group (map tree keys) aggs None) frame) ≡ Some (ComputeError NoKey)
-key_missing [] aggs frame h = refl
-key_missing (k ∷ keys) aggs frame h = absurd (omega (arith, no_length (length (k ∷ keys)) h))
+pub key_missing : (keys : List Expr) (aggs : List Tree) (scope : Scope) → (length keys == 0) ≡ true → first_of (typed_group_refusals scope (map tree keys) aggs) ≡ Some (ComputeError NoKey)
+key_missing [] aggs scope h = refl
+key_missing (k ∷ keys) aggs scope h = absurd (omega (arith, no_length (length (k ∷ keys)) h))
 
 pub key_there : (keys : List Expr) → (length keys == 0) ≡ false → no_key_refusal (map tree keys) ≡ []
 key_there [] h = cc
 key_there (k ∷ keys) h = refl
 
-module _ (e : PxError) (keys aggs : List Tree) (cs : List Series) (scope : Scope) (is : scope ≡ map column_field cs) (some : no_key_refusal keys ≡ []) where
+module _ (e : PxError) (keys aggs : List Tree) (scope : Scope) (some : no_key_refusal keys ≡ []) where
   abbrev N : List PxError
   N = no_key_refusal keys
 
   abbrev K : List PxError
-  K = flat_map (key_refusals (alone cs)) keys
+  K = flat_map (typed_key_refusals scope) keys
 
   abbrev A : List PxError
-  A = flat_map (agg_refusals (alone cs)) aggs
+  A = flat_map (λ t. refusals_of t scope Aggregation) aggs
 
   abbrev R : List PxError
   R = repeat_refusal (keys ++ aggs)
 
-  pub keys_first : IsFirst e (flat_map (typed_key_refusals scope) keys) → IsFirst e (step_refusals (group keys aggs None) (alone cs))
+  pub keys_first : IsFirst e K → IsFirst e (typed_group_refusals scope keys aggs)
   keys_first h =
-      let k : IsFirst e K = subst (λ (s : Scope). IsFirst e (flat_map (typed_key_refusals s) keys)) is h in
-      let nk : IsFirst e (N ++ K) = subst (λ (n : List PxError). IsFirst e (n ++ K)) (sym some) k in
-      IsFirst_append e (((N ++ K) ++ A) ++ R) [] (IsFirst_append e ((N ++ K) ++ A) R (IsFirst_append e (N ++ K) A nk))
+      let nk : IsFirst e (N ++ K) = subst (λ (n : List PxError). IsFirst e (n ++ K)) (sym some) h in
+      IsFirst_append e ((N ++ K) ++ A) R (IsFirst_append e (N ++ K) A nk)
 
-  module _ (keyed : flat_map (typed_key_refusals scope) keys ≡ []) where
+  module _ (keyed : K ≡ []) where
     no_keys : N ++ K ≡ []
-    no_keys = λ i. some i ++ (ap (λ (s : Scope). flat_map (typed_key_refusals s) keys) (sym is) ∙ keyed) i
+    no_keys = λ i. some i ++ keyed i
 
-    pub aggs_first : IsFirst e (flat_map (λ t. refusals_of t scope Aggregation) aggs) → IsFirst e (step_refusals (group keys aggs None) (alone cs))
+    pub aggs_first : IsFirst e A → IsFirst e (typed_group_refusals scope keys aggs)
     aggs_first h =
-        let a : IsFirst e A = subst (λ (s : Scope). IsFirst e (flat_map (λ t. refusals_of t s Aggregation) aggs)) is h in
-        let nka : IsFirst e ((N ++ K) ++ A) = subst (λ (n : List PxError). IsFirst e (n ++ A)) (sym no_keys) a in
-        IsFirst_append e (((N ++ K) ++ A) ++ R) [] (IsFirst_append e ((N ++ K) ++ A) R nka)
+        let nka : IsFirst e ((N ++ K) ++ A) = subst (λ (n : List PxError). IsFirst e (n ++ A)) (sym no_keys) h in
+        IsFirst_append e ((N ++ K) ++ A) R nka
 
-    module _ (typed : flat_map (λ t. refusals_of t scope Aggregation) aggs ≡ []) where
+    module _ (typed : A ≡ []) where
       no_typed : (N ++ K) ++ A ≡ []
-      no_typed = λ i. no_keys i ++ (ap (λ (s : Scope). flat_map (λ t. refusals_of t s Aggregation) aggs) (sym is) ∙ typed) i
+      no_typed = λ i. no_keys i ++ typed i
 
-      pub names_first : IsFirst e R → IsFirst e (step_refusals (group keys aggs None) (alone cs))
-      names_first h =
-          let all : IsFirst e (((N ++ K) ++ A) ++ R) = subst (λ (n : List PxError). IsFirst e (n ++ R)) (sym no_typed) h in
-          IsFirst_append e (((N ++ K) ++ A) ++ R) [] all
+      pub names_first : IsFirst e R → IsFirst e (typed_group_refusals scope keys aggs)
+      names_first h = subst (λ (n : List PxError). IsFirst e (n ++ R)) (sym no_typed) h
 
-      pub none_first : R ≡ [] → step_refusals (group keys aggs None) (alone cs) ≡ []
-      none_first h = λ i. (no_typed i ++ h i) ++ []
+      pub none_first : R ≡ [] → typed_group_refusals scope keys aggs ≡ []
+      none_first h = λ i. no_typed i ++ h i
+
+-- over the frame's names and types these are the step's refusals
+pub step_first : (e : PxError) (keys aggs : List Tree) (frame : Frame) (scope : Scope) → scope ≡ scope_of frame → IsFirst e (typed_group_refusals scope keys aggs) → (e ≡ OutOfMemory) ⊎ IsStepCause e (group keys aggs None) frame
+step_first e keys aggs frame scope is h =
+    refusal_cause e (group keys aggs None) frame (IsFirst_append e (typed_group_refusals (scope_of frame) keys aggs) [] (subst (λ (s : Scope). IsFirst e (typed_group_refusals s keys aggs)) is h))
+
+pub step_accepted : (keys aggs : List Tree) (frame : Frame) (scope : Scope) → scope ≡ scope_of frame → typed_group_refusals scope keys aggs ≡ [] → step_refusals (group keys aggs None) frame ≡ []
+step_accepted keys aggs frame scope is n = let none : typed_group_refusals (scope_of frame) keys aggs ≡ [] = ap (λ (s : Scope). typed_group_refusals s keys aggs) (sym is) ∙ n in λ i. none i ++ []

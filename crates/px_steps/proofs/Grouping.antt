@@ -1,15 +1,13 @@
 -- What is found of expressions that are not refused.
-use Rattle.std.proofs.Common.{◌≡◌, inl, ℕ, true, List, [], ◌∷◌, Option, Some, None, Result, Ok, Err, option_map, option_and_then, map, refl, sym, ◌∙◌, ap, subst}
-use Rattle.px_column.specs.Prelude.{Answers, Refuses, Kind, Series}
+use Rattle.std.proofs.Common.{◌≡◌, inl, ℕ, List, [], ◌∷◌, ◌++◌, Option, Some, None, Result, Ok, Err, option_map, option_and_then, refl, sym, ◌∙◌, ap, subst}
+use Rattle.px_column.specs.Prelude.{Answers, Refuses, Kind}
 use Rattle.px_value.specs.declared.error.PxError.{PxError}
 use Rattle.px_value.specs.declared.error.PxError.TheVariants.{OutOfMemory, ColumnNotFound, Duplicate, InvalidOperation, ComputeError, OutOfBounds, ShapeMismatch, SchemaMismatch}
-use Rattle.px_tree.specs.Built.{is_built_tree}
 use Rattle.px_expr.specs.Plan.{planned_over}
 use Rattle.px_answers.specs.Planned.{Planned}
-use Rattle.px_answers.specs.Value.{IsCause, causes_on}
+use Rattle.px_answers.specs.Value.{IsCause, IsCellOf, causes_on}
 use Rattle.px_frame.specs.Cell.{Cell}
-use Rattle.px_frame.specs.External.{Frame, alone, scope_of}
-use Rattle.px_frame.specs.Schema.{column_field}
+use Rattle.px_frame.specs.External.{Frame, scope_of}
 use Rattle.px_frame.specs.Spread.{NamedCell}
 use Rattle.px_tree.specs.Shape.{name_of}
 use Rattle.px_tree.specs.Size.{size_on}
@@ -18,10 +16,10 @@ use Rattle.px_tree.specs.Typing.{Scope, kind_in, refusals_of}
 use Rattle.px_tree.specs.Value.{faults_on, value_on}
 use Rattle.px_tree.specs.declared.context.Context.{Context}
 use Rattle.px_tree.specs.declared.context.Context.TheVariants.{Default}
-use Rattle.px_steps.specs.Finds.{Finds, IsAccepted, Lacks}
+use Rattle.px_steps.specs.Finds.{Finds, IsAccepted, Lacks, misfit_fault}
 use Rattle.px_steps.specs.Meets.{IsFirst}
 use Rattle.px_steps.specs.Plain.{named_value}
-use Rattle.px_steps.proofs.Selected.{cause_lacks, faults_alone}
+use Rattle.px_steps.proofs.Selected.{cause_lacks, causes_told, cell_fits, lacks_swapped}
 
 -- where there is no refusal, memory was wanting
 pub no_first : (e : PxError) (refusals : List PxError) → refusals ≡ [] → IsFirst e refusals → e ≡ OutOfMemory
@@ -51,10 +49,10 @@ finds_same (Ok x) y meant faults n a m f = let same : y ≡ x = cc in (f, m ∙ 
 finds_same {X} (Err e) y meant faults n a m f = inl (no_refusal {Y = X} e (Ok y) y refl a)
 
 -- why an expression that is not refused has no value
-pub accepted_lacks : (e : PxError) (p : Planned) (cs : List Series) → IsAccepted p cs Default → IsCause e p (alone cs) → Lacks e (faults_on p.tree (alone cs)) (size_on p.tree (alone cs ∷ []))
-accepted_lacks e p cs a c =
-    let same : causes_on p (alone cs) ≡ faults_on p.tree (alone cs) = ap (λ q. causes_on q (alone cs)) a.over ∙ faults_alone cs p.tree a.built a.accepted in
-    subst (λ (es : List PxError). Lacks e es (size_on p.tree (alone cs ∷ []))) same (cause_lacks e p (alone cs) c)
+pub accepted_lacks : (e : PxError) (p : Planned) (frame : Frame) → IsAccepted p frame Default → IsCause e p frame → Lacks e (faults_on p.tree frame ++ misfit_fault frame p.tree) (size_on p.tree (frame ∷ []))
+accepted_lacks e p frame a c =
+    let same : causes_on p frame ≡ misfit_fault frame p.tree ++ faults_on p.tree frame = ap (λ q. causes_on q frame) a.over ∙ causes_told frame p.tree a.accepted in
+    lacks_swapped e (misfit_fault frame p.tree) (faults_on p.tree frame) _ (subst (λ (es : List PxError). Lacks e es (size_on p.tree (frame ∷ []))) same (cause_lacks e p frame c))
 
 -- a named value is the value, with the expression's type
 pub value_there : (frame : Frame) (t : Tree) (c : NamedCell) → named_value frame t ≡ Some c → (value_on t frame ≡ Some c.cell) × (kind_in t (scope_of frame) ≡ Some c.kind)
@@ -66,7 +64,11 @@ value_there frame t c h = by (value_on t frame) (kind_in t (scope_of frame)) h
     by (Some v) (Some k) h = let same : record { name = name_of t; kind = k; cell = v } ≡ c = cc in (ap (λ (x : NamedCell). Some x.cell) same, ap (λ (x : NamedCell). Some x.kind) same)
 
 -- a planned expression that is not refused in its place
-pub accepted_made : (p : Planned) (t : Tree) (cs : List Series) (scope : Scope) (place : Context) → Some (planned_over scope t) ≡ Some p → scope ≡ map column_field cs → is_built_tree t ≡ true → refusals_of t (map column_field cs) place ≡ [] → IsAccepted p cs place
-accepted_made p t cs scope place h s b n =
+pub accepted_made : (p : Planned) (t : Tree) (frame : Frame) (scope : Scope) (place : Context) → Some (planned_over scope t) ≡ Some p → scope ≡ scope_of frame → refusals_of t (scope_of frame) place ≡ [] → IsAccepted p frame place
+accepted_made p t frame scope place h s n =
     let made : planned_over scope t ≡ p = cc in
-    subst (λ (q : Planned). IsAccepted q cs place) (ap (λ (over : Scope). planned_over over t) (sym s) ∙ made) (record { built = b; over = refl; accepted = n })
+    subst (λ (q : Planned). IsAccepted q frame place) (ap (λ (over : Scope). planned_over over t) (sym s) ∙ made) (record { over = refl; accepted = n })
+
+-- an accepted expression whose cell was made names no column beside the frame that has not its height
+pub accepted_fits : (p : Planned) (frame : Frame) (c : NamedCell) → IsAccepted p frame Default → IsCellOf p frame c → misfit_fault frame p.tree ≡ []
+accepted_fits p frame c a h = cell_fits p.tree frame c a.accepted (subst (λ (q : Planned). IsCellOf q frame c) a.over h)

@@ -1,24 +1,30 @@
 -- How often kernels run at least and at most: of some expressions one after another, of a group step, and of steps.
-use Rattle.std.proofs.Common.{◌≡◌, ℕ, ◌+◌, ◌<◌, ◌≤◌, Bool, true, false, cond, List, [], ◌∷◌, Option, Some, None, Result, Ok, Err, drop, get_or, length, map, option_and_then, option_map, refl, sum, sym, ◌∙◌, ap, subst, arith}
+use Rattle.std.proofs.Common.{◌≡◌, ℕ, ◌+◌, ◌≤◌, Bool, true, false, cond, List, ◌∷◌, Option, Some, None, Result, Ok, Err, length, option_and_then, option_map, refl, sym, ◌∙◌, ap, subst, arith}
 use Rattle.std.specs.Prelude.{OnOk}
 use Rattle.std.specs.List.{sum_by}
-use Rattle.std.proofs.lemmas.List.{at_drop_all, length-map}
-use Rattle.std.proofs.lemmas.List.Sums.{sum_by-cons}
+use Rattle.std.proofs.lemmas.List.{length-map}
 use Rattle.px_column.specs.Option.{each}
 use Rattle.px_column.specs.Prelude.{Series}
-use Rattle.px_answers.specs.Counted.{RisesAtMost, RunExactly, costs_on, flat_kernels}
+use Rattle.px_answers.specs.Counted.{RisesAtMost, RunAtMost, RunExactly, costs_on, flat_kernels}
 use Rattle.px_group_answers.specs.Counted.{RunOnGroups}
 use Rattle.px_frame.specs.External.{Frame, height, rows_of_frame}
 use Rattle.px_frame.specs.Parts.{parts_of}
-use Rattle.px_tree.specs.Cost.{cost_on, is_flat, ticks_of}
+use Rattle.px_tree.specs.Cost.{is_flat, ticks_of, windows_in}
 use Rattle.px_tree.specs.Step.{PlainStep, group}
 use Rattle.px_tree.specs.Tree.{Tree}
-use Rattle.px_steps.specs.Plain.{frames_by, group_costs, group_frames, kernels_in, key_on, most_kernels_in, most_kernels_of, step_on}
-use Rattle.px_steps.proofs.Members.{at}
+use Rattle.px_steps.specs.Plain.{frames_by, group_costs, group_frames, groupings_in, kernels_in, key_on, most_kernels_in, most_kernels_of, step_on}
 
 -- a flat aggregation runs its kernels
 pub least_on_groups : (t : Tree) (n old new : ℕ) → RunExactly t old new → RunOnGroups t n old new → old + flat_kernels t ≤ new
 least_on_groups t n old new exact most = by (is_flat t) refl
+  where
+    by : (b : Bool) → is_flat t ≡ b → old + cond b (ticks_of t) 0 ≤ new
+    by true h = let same = exact h in omega (arith, same)
+    by false h = omega (arith, most.rises)
+
+-- and so does a flat expression on a frame
+pub least_on_frame : (t : Tree) (f : Frame) (old new : ℕ) → RunExactly t old new → RunAtMost t f old new → old + flat_kernels t ≤ new
+least_on_frame t f old new exact most = by (is_flat t) refl
   where
     by : (b : Bool) → is_flat t ≡ b → old + cond b (ticks_of t) 0 ≤ new
     by true h = let same = exact h in omega (arith, same)
@@ -35,6 +41,16 @@ least_both keys aggs ks ns k n old mid new a b =
     let first = ap (sum_by flat_kernels) k in
     let second = ap (sum_by flat_kernels) n in
     omega (arith, a, b, first, second)
+
+-- the groupings of keys, and then of the groups
+pub grouped_both : (keys aggs ks : List Tree) → ks ≡ keys → (old mid new : ℕ) → mid ≡ old + sum_by windows_in ks → new ≡ mid + 1 → new ≡ old + groupings_in (group keys aggs None)
+grouped_both keys aggs ks k old mid new a b = let first = ap (sum_by windows_in) k in omega (arith, a, b, first)
+
+pub within_both : (keys aggs ks : List Tree) → ks ≡ keys → (old mid new : ℕ) → mid ≤ old + sum_by windows_in ks → new ≡ mid + 1 → new ≤ old + groupings_in (group keys aggs None)
+within_both keys aggs ks k old mid new a b = let first = ap (sum_by windows_in) k in omega (arith, a, b, first)
+
+pub within_first : (keys aggs ks : List Tree) → ks ≡ keys → (old mid : ℕ) → mid ≤ old + sum_by windows_in ks → mid ≤ old + groupings_in (group keys aggs None)
+within_first keys aggs ks k old mid a = let first = ap (sum_by windows_in) k in omega (arith, a, first)
 
 pub most_both : (F : Frame) (keys aggs ks ns : List Tree) → ks ≡ keys → ns ≡ aggs → (by : List Series) → each (key_on F) keys ≡ Some by → (old mid new : ℕ) → RisesAtMost (costs_on ks F) old mid
     → new ≤ mid + group_costs ns (length (parts_of by (height F))) → RisesAtMost (most_kernels_in (group keys aggs None) F) old new

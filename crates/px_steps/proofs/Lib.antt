@@ -1,3 +1,5 @@
+pub mod Found
+pub mod Misfits
 pub mod Named
 pub mod Selected
 pub mod Members
@@ -13,3 +15,4 @@ pub mod Command
 pub mod Aggregated
 pub mod Nodes
 pub mod Kernels
+pub mod Fields

@@ -12,7 +12,7 @@ use Rattle.px_steps.specs.Meets.{IsFirst}
 use Rattle.px_steps.specs.Plain.{greatest}
 use Rattle.px_value.proofs.FitLaws.{both}
 use Rattle.px_steps.proofs.Named.{IsFirst_append}
-use Rattle.px_steps.proofs.Selected.{one_left, one_right}
+use Rattle.px_steps.proofs.Misfits.{one_left, one_right}
 use Rattle.px_tree.proofs.KindLaws.{none_left as nil_left, none_right as nil_right}
 
 -- an item stands in a list
@@ -86,6 +86,12 @@ module _ {X A : Type 0} (v : X → A) (xs : List X) (i : ℕ) (x : X) (below : i
 
   pub most_next : (f : A → ℕ) (all old new : ℕ) → old + sum_by f (map v (drop i xs)) ≤ all → new ≤ old + f (v x) → new + sum_by f (map v (drop (i + 1) xs)) ≤ all
   most_next f all old new h one = omega (arith, h, one, at (sum_by f), sum_by-cons f (v x) (map v (drop (i + 1) xs)))
+
+  pub exactly_next : (f : A → ℕ) (all old new : ℕ) → old + sum_by f (map v (drop i xs)) ≡ all → new ≡ old + f (v x) → new + sum_by f (map v (drop (i + 1) xs)) ≡ all
+  exactly_next f all old new h one = omega (arith, h, one, at (sum_by f), sum_by-cons f (v x) (map v (drop (i + 1) xs)))
+
+  pub within_here : (f : A → ℕ) (all old new : ℕ) → old + sum_by f (map v (drop i xs)) ≡ all → new ≤ old + f (v x) → new ≤ all
+  within_here f all old new h one = omega (arith, h, one, at (sum_by f), sum_by-cons f (v x) (map v (drop (i + 1) xs)))
 
   pub values_next : {B : Type 0} (f : A → Option B) (front new : List B) (b : B) (all : Option (List B)) → with_front front (each f (map v (drop i xs))) ≡ all → f (v x) ≡ Some b → new ≡ front ++ b ∷ []
       → with_front new (each f (map v (drop (i + 1) xs))) ≡ all

@@ -1,21 +1,18 @@
 -- Nodes of expressions: which type they have, and that they are planned and not refused.
 use Rattle.std.proofs.Common.{◌≡◌, inl, inr, Bool, true, false, not, List, [], ◌∷◌, ◌++◌, Option, Some, None, Ok, map, refl, sym, ◌∙◌, ap, subst}
-use Rattle.std.specs.List.{flat_map, list_all}
-use Rattle.px_column.specs.Prelude.{Kind, Series}
+use Rattle.std.specs.List.{flat_map}
+use Rattle.px_column.specs.Prelude.{Kind}
 use Rattle.px_value.specs.declared.error.PxError.{PxError}
 use Rattle.px_answers.specs.Planned.{Planned}
 use Rattle.px_expr.specs.NodeView.{plan_of}
 use Rattle.px_expr.specs.Plan.{planned_over}
 use Rattle.px_expr.specs.declared.phys_expr.PhysExpr.{PhysExpr}
-use Rattle.px_frame.specs.Schema.{column_field}
-use Rattle.px_tree.specs.Built.{is_built_tree}
-use Rattle.px_tree.specs.Shape.{name_of}
+use Rattle.px_frame.specs.External.{Frame, scope_of}
 use Rattle.px_tree.specs.Tree.{Tree}
 use Rattle.px_tree.specs.Typing.{Scope, fails, first_or_kind, kind_in, refusals_of, refused_where, type_of}
 use Rattle.px_tree.specs.declared.context.Context.{Context}
 use Rattle.px_tree.specs.declared.context.Context.TheVariants.{Default}
 use Rattle.px_tree.proofs.KindLaws.{none_left as nil_left, none_right as nil_right}
-use Rattle.px_value.proofs.FitLaws.{both}
 use Rattle.px_steps.specs.Finds.{AreAccepted, GroupPlans, IsAccepted, group_plans, node_tree, plans_over}
 use Rattle.px_steps.specs.declared.group_step.GroupNodes.{GroupNodes}
 use Rattle.px_steps.specs.Plain.{first_of}
@@ -44,24 +41,20 @@ module _ (t : Tree) (scope : Scope) (none : refusals_of t scope Default ≡ []) 
   type_fails h = ap first_of (told false h)
 
 -- a planned expression among some is not refused
-pub in_accepted : (cs : List Series) (place : Context) (ps : List Planned) (p : Planned) → In p ps → AreAccepted ps cs place → IsAccepted p cs place
-in_accepted cs place [] p h a = absurd h
-in_accepted cs place (q ∷ ps) p (inl e) a = subst (λ (x : Planned). IsAccepted x cs place) (sym e) a.0
-in_accepted cs place (q ∷ ps) p (inr h) a = in_accepted cs place ps p h a.1
+pub in_accepted : (frame : Frame) (place : Context) (ps : List Planned) (p : Planned) → In p ps → AreAccepted ps frame place → IsAccepted p frame place
+in_accepted frame place [] p h a = absurd h
+in_accepted frame place (q ∷ ps) p (inl e) a = subst (λ (x : Planned). IsAccepted x frame place) (sym e) a.0
+in_accepted frame place (q ∷ ps) p (inr h) a = in_accepted frame place ps p h a.1
 
 -- expressions that are not refused, planned over the frame's names and types
-all_accepted : (cs : List Series) (place : Context) (ts : List Tree) → list_all is_built_tree ts ≡ true → flat_map (λ t. refusals_of t (map column_field cs) place) ts ≡ [] → AreAccepted (map (planned_over (map column_field cs)) ts) cs place
-all_accepted cs place [] b n = tt
-all_accepted cs place (t ∷ ts) b n =
-    let one = both (is_built_tree t) (list_all is_built_tree ts) b in
-    let R : Tree → List PxError = λ x. refusals_of x (map column_field cs) place in (
-      record { built = one.0; over = refl; accepted = nil_left (R t) (flat_map R ts) n },
-      all_accepted cs place ts one.1 (nil_right (R t) (flat_map R ts) n),
-    )
+all_accepted : (frame : Frame) (place : Context) (ts : List Tree) → flat_map (λ t. refusals_of t (scope_of frame) place) ts ≡ [] → AreAccepted (map (planned_over (scope_of frame)) ts) frame place
+all_accepted frame place [] n = tt
+all_accepted frame place (t ∷ ts) n =
+    let R : Tree → List PxError = λ x. refusals_of x (scope_of frame) place in
+    (record { over = refl; accepted = nil_left (R t) (flat_map R ts) n }, all_accepted frame place ts (nil_right (R t) (flat_map R ts) n))
 
-pub are_accepted : (cs : List Series) (place : Context) (ts : List Tree) (nodes : List PhysExpr) → map (planned_over (map column_field cs)) ts ≡ map plan_of nodes → list_all is_built_tree ts ≡ true
-    → flat_map (λ t. refusals_of t (map column_field cs) place) ts ≡ [] → AreAccepted (map plan_of nodes) cs place
-are_accepted cs place ts nodes e b n = subst (λ (ps : List Planned). AreAccepted ps cs place) e (all_accepted cs place ts b n)
+pub are_accepted : (frame : Frame) (scope : Scope) (place : Context) (ts : List Tree) (nodes : List PhysExpr) → scope ≡ scope_of frame → map (planned_over scope) ts ≡ map plan_of nodes → flat_map (λ t. refusals_of t (scope_of frame) place) ts ≡ [] → AreAccepted (map plan_of nodes) frame place
+are_accepted frame scope place ts nodes s e n = subst (λ (ps : List Planned). AreAccepted ps frame place) (ap (λ (over : Scope). map (planned_over over) ts) (sym s) ∙ e) (all_accepted frame place ts n)
 
 plan_trees : (nodes : List PhysExpr) → map (λ (p : Planned). p.tree) (map plan_of nodes) ≡ map node_tree nodes
 plan_trees [] = refl
@@ -75,13 +68,13 @@ planned_trees scope (t ∷ ts) = ap (λ us. t ∷ us) (planned_trees scope ts)
 pub same_trees : (scope : Scope) (ts : List Tree) (nodes : List PhysExpr) → map (planned_over scope) ts ≡ map plan_of nodes → map node_tree nodes ≡ ts
 same_trees scope ts nodes e = sym (plan_trees nodes) ∙ ap (map (λ (p : Planned). p.tree)) (sym e) ∙ planned_trees scope ts
 
--- the nodes of keys and of aggregations, over the frame's names and types
-pub both_planned : (fields scope : Scope) (keys aggs : List Tree) (g : GroupNodes) → fields ≡ scope → Some (map (planned_over scope) keys) ≡ Some (map plan_of g.keys.items) → Some (map (planned_over scope) aggs) ≡ Some (map plan_of g.aggs.items)
-    → Some (plans_over fields keys aggs) ≡ Some (group_plans g)
-both_planned fields scope keys aggs g e k a =
+-- the nodes of keys and of aggregations
+pub both_planned : (scope : Scope) (keys aggs : List Tree) (g : GroupNodes) → Some (map (planned_over scope) keys) ≡ Some (map plan_of g.keys.items) → Some (map (planned_over scope) aggs) ≡ Some (map plan_of g.aggs.items)
+    → Some (plans_over scope keys aggs) ≡ Some (group_plans g)
+both_planned scope keys aggs g k a =
     let first : map (planned_over scope) keys ≡ map plan_of g.keys.items = cc in
     let second : map (planned_over scope) aggs ≡ map plan_of g.aggs.items = cc in
-    ap (λ (s : Scope). Some (plans_over s keys aggs)) e ∙ (λ i. Some (record { keys = first i; aggs = second i }))
+    λ i. Some (record { keys = first i; aggs = second i })
 
 -- each for itself
 pub planned_both : (scope : Scope) (keys aggs : List Tree) (g : GroupNodes) → Some (plans_over scope keys aggs) ≡ Some (group_plans g) → (map (planned_over scope) keys ≡ map plan_of g.keys.items) × (map (planned_over scope) aggs ≡ map plan_of g.aggs.items)

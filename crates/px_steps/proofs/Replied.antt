@@ -7,7 +7,7 @@ use Rattle.px_value.specs.declared.error.PxError.{PxError}
 use Rattle.px_value.specs.declared.error.PxError.TheVariants.{OutOfMemory}
 use Rattle.px_frame.specs.External.{alone}
 use Rattle.px_frame.specs.Frame.{height_of}
-use Rattle.px_tree.specs.Built.{is_built}
+use Rattle.px_tree.specs.Chunks.{is_unchunked}
 use Rattle.px_steps.specs.Causes.{AreRun, IsCauseIn}
 use Rattle.px_document.specs.Document.{Doc}
 use Rattle.px_document.specs.Label.{line_of}
@@ -17,9 +17,9 @@ use Rattle.px_document.specs.DocumentText.{IsDocument}
 use Rattle.px_steps.specs.Reply.{IsResult, IsRefusal}
 use Rattle.px_document.specs.Text.{text_of}
 
--- the steps of a document can be run
-pub document_built : (bytes : List ℕ) (doc : Doc) → IsDocument bytes doc → list_all is_built doc.steps ≡ true
-document_built bytes doc is = is.says.readable
+-- the steps of a document have no chunks
+pub document_unchunked : (bytes : List ℕ) (doc : Doc) → IsDocument bytes doc → list_all is_unchunked doc.steps ≡ true
+document_unchunked bytes doc is = is.says.readable
 
 -- bytes say at most one document
 pub one_document : (bytes : List ℕ) (doc other : Doc) → IsDocument bytes doc → IsDocument bytes other → doc ≡ other

@@ -8,39 +8,42 @@ use Rattle.px_column.specs.Prelude.{Series}
 use Rattle.px_value.specs.declared.error.PxError.{PxError}
 use Rattle.px_value.specs.declared.error.PxError.TheVariants.{OutOfMemory}
 use Rattle.px_answers.specs.Value.{IsOneOf}
-use Rattle.px_frame.specs.External.{Frame, alone}
-use Rattle.px_tree.specs.Built.{is_built}
+use Rattle.px_frame.specs.External.{Frame}
+use Rattle.px_tree.specs.Chunks.{is_unchunked}
 use Rattle.px_steps.specs.Causes.{AreRun, IsCauseIn, StandsIn, StepAnswers, StepsAnswer}
 use Rattle.px_answers.specs.Counted.{RisesAtMost}
-use Rattle.px_steps.specs.Plain.{AreValid, groupings_in, groupings_of, kernels_in, kernels_of, most_kernels_in, most_kernels_of, plain_on, step_on}
+use Rattle.px_steps.specs.Plain.{AreValid, groupings_in, groupings_of, kernels_in, kernels_of, most_kernels_in, most_kernels_of, plain_on, step_on, with_columns}
 use Rattle.px_tree.specs.Step.{PlainStep, step_view}
 use Rattle.px_tree.specs.declared.step.Step.{Step}
 use Rattle.px_value.proofs.FitLaws.{both}
 use Rattle.px_steps.proofs.Kernels.{steps_more}
 
 -- a step before others that answer
-pub answer_first : (s : PlainStep) (steps : List PlainStep) (cs next : List Series) (r : Result (List Series) PxError) → StepAnswers (Ok next) s cs → StepsAnswer r steps next → StepsAnswer r (s ∷ steps) cs
-answer_first s steps cs next (Ok f) one rest = (alone next, (one, rest))
-answer_first s steps cs next (Err e) one (inl m) = inl m
-answer_first s steps cs next (Err e) one (inr c) = inr (inr (alone next, (one, c)))
+pub answer_first : (s : PlainStep) (steps : List PlainStep) (frame : Frame) (next : List Series) (r : Result (List Series) PxError) → StepAnswers (Ok next) s frame → StepsAnswer r steps (with_columns frame next) → StepsAnswer r (s ∷ steps) frame
+answer_first s steps frame next (Ok f) one rest = (with_columns frame next, (one, rest))
+answer_first s steps frame next (Err e) one (inl m) = inl m
+answer_first s steps frame next (Err e) one (inr c) = inr (inr (with_columns frame next, (one, c)))
 
 -- the first step has no answer
-pub cause_first : (s : PlainStep) (steps : List PlainStep) (cs : List Series) (e : PxError) → StepAnswers (Err e) s cs → IsCauseIn e (s ∷ steps) (alone cs)
-cause_first s steps cs e (inl m) = inl m
-cause_first s steps cs e (inr c) = inr (inl c)
+pub cause_first : (s : PlainStep) (steps : List PlainStep) (frame : Frame) (e : PxError) → StepAnswers (Err e) s frame → IsCauseIn e (s ∷ steps) frame
+cause_first s steps frame e (inl m) = inl m
+cause_first s steps frame e (inr c) = inr (inl c)
 
 module _ (steps : List Step) (i : ℕ) (k : Step) (below : i < length steps) (is : k ≡ get_or steps i k) where
   at : {Y : Type 0} (f : List PlainStep → Y) → f (map step_view (drop i steps)) ≡ f (step_view k ∷ map step_view (drop (i + 1) steps))
   at f = at_drop_more (λ ss. f (map step_view ss)) steps i k below ∙ ap (λ s. f (step_view s ∷ map step_view (drop (i + 1) steps))) (sym is)
 
-  pub built_next : list_all is_built (map step_view (drop i steps)) ≡ true → list_all is_built (map step_view (drop (i + 1) steps)) ≡ true
-  built_next h = (both (is_built (step_view k)) (list_all is_built (map step_view (drop (i + 1) steps))) (sym (at (list_all is_built)) ∙ h)).1
+  pub unchunked_next : list_all is_unchunked (map step_view (drop i steps)) ≡ true → list_all is_unchunked (map step_view (drop (i + 1) steps)) ≡ true
+  unchunked_next h = (both (is_unchunked (step_view k)) (list_all is_unchunked (map step_view (drop (i + 1) steps))) (sym (at (list_all is_unchunked)) ∙ h)).1
 
-  pub built_here : list_all is_built (map step_view (drop i steps)) ≡ true → is_built (step_view k) ≡ true
-  built_here h = (both (is_built (step_view k)) (list_all is_built (map step_view (drop (i + 1) steps))) (sym (at (list_all is_built)) ∙ h)).0
+  pub unchunked_here : list_all is_unchunked (map step_view (drop i steps)) ≡ true → is_unchunked (step_view k) ≡ true
+  unchunked_here h = (both (is_unchunked (step_view k)) (list_all is_unchunked (map step_view (drop (i + 1) steps))) (sym (at (list_all is_unchunked)) ∙ h)).0
 
   pub grouped_next : (before after all : ℕ) → before + groupings_of (map step_view (drop i steps)) ≡ all → after ≡ before + groupings_in (step_view k) → after + groupings_of (map step_view (drop (i + 1) steps)) ≡ all
   grouped_next before after all h e = omega (arith, at groupings_of, sum_by-cons groupings_in (step_view k) (map step_view (drop (i + 1) steps)))
+
+  pub within_next : (before after all : ℕ) → before + groupings_of (map step_view (drop i steps)) ≡ all → after ≤ before + groupings_in (step_view k) → after ≤ all
+  within_next before after all h e = omega (arith, h, e, at groupings_of, sum_by-cons groupings_in (step_view k) (map step_view (drop (i + 1) steps)))
 
   pub ticks_next : (before after all : ℕ) → all ≤ before + kernels_of (map step_view (drop i steps)) → before + kernels_in (step_view k) ≤ after → all ≤ after + kernels_of (map step_view (drop (i + 1) steps))
   ticks_next before after all h e = omega (arith, h, e, at kernels_of, sum_by-cons kernels_in (step_view k) (map step_view (drop (i + 1) steps)))
@@ -50,17 +53,17 @@ module _ (steps : List Step) (i : ℕ) (k : Step) (below : i < length steps) (is
   most_after F next whole old mid h made one new rest =
       h new (subst (λ o. RisesAtMost o old new) (sym (at (λ ss. most_kernels_of ss F))) (steps_more (step_view k) (map step_view (drop (i + 1) steps)) F next old mid new made one rest))
 
-  pub answer_next : (cs next : List Series) (all : List PlainStep) (initial : List Series) → ((r : Result (List Series) PxError) → StepsAnswer r (map step_view (drop i steps)) cs → StepsAnswer r all initial)
-      → StepAnswers (Ok next) (step_view k) cs → (r : Result (List Series) PxError) → StepsAnswer r (map step_view (drop (i + 1) steps)) next → StepsAnswer r all initial
-  answer_next cs next all initial h one r rest =
-      h r (subst (λ (ss : List PlainStep). StepsAnswer r ss cs) (sym (at (λ ss. ss))) (answer_first (step_view k) (map step_view (drop (i + 1) steps)) cs next r one rest))
+  pub answer_next : (frame : Frame) (next : List Series) (all : List PlainStep) (initial : Frame) → ((r : Result (List Series) PxError) → StepsAnswer r (map step_view (drop i steps)) frame → StepsAnswer r all initial)
+      → StepAnswers (Ok next) (step_view k) frame → (r : Result (List Series) PxError) → StepsAnswer r (map step_view (drop (i + 1) steps)) (with_columns frame next) → StepsAnswer r all initial
+  answer_next frame next all initial h one r rest =
+      h r (subst (λ (ss : List PlainStep). StepsAnswer r ss frame) (sym (at (λ ss. ss))) (answer_first (step_view k) (map step_view (drop (i + 1) steps)) frame next r one rest))
 
-  pub cause_here : (cs : List Series) (e : PxError) → StepAnswers (Err e) (step_view k) cs → IsCauseIn e (map step_view (drop i steps)) (alone cs)
-  cause_here cs e h = subst (λ (ss : List PlainStep). IsCauseIn e ss (alone cs)) (sym (at (λ ss. ss))) (cause_first (step_view k) (map step_view (drop (i + 1) steps)) cs e h)
+  pub cause_here : (frame : Frame) (e : PxError) → StepAnswers (Err e) (step_view k) frame → IsCauseIn e (map step_view (drop i steps)) frame
+  cause_here frame e h = subst (λ (ss : List PlainStep). IsCauseIn e ss frame) (sym (at (λ ss. ss))) (cause_first (step_view k) (map step_view (drop (i + 1) steps)) frame e h)
 
 -- no step is left
-pub answer_end : (steps : List Step) (i : ℕ) (cs : List Series) → length steps ≤ i → StepsAnswer (Ok cs) (map step_view (drop i steps)) cs
-answer_end steps i cs h = subst (λ (ss : List PlainStep). StepsAnswer (Ok cs) ss cs) (sym (at_drop_all (λ ss. map step_view ss) steps i h)) refl
+pub answer_end : (steps : List Step) (i : ℕ) (frame : Frame) → length steps ≤ i → StepsAnswer (Ok frame.columns) (map step_view (drop i steps)) frame
+answer_end steps i frame h = subst (λ (ss : List PlainStep). StepsAnswer (Ok frame.columns) ss frame) (sym (at_drop_all (λ ss. map step_view ss) steps i h)) refl
 
 pub most_end : (steps : List Step) (i : ℕ) → length steps ≤ i → (F : Frame) (whole : ℕ → Type 0) (now : ℕ) → ((new : ℕ) → RisesAtMost (most_kernels_of (map step_view (drop i steps)) F) now new → whole new) → whole now
 most_end steps i end F whole now h = h now (subst (λ o. RisesAtMost o now now) (sym (at_drop_all (λ ss. most_kernels_of (map step_view ss) F) steps i end)) (omega arith))
@@ -75,12 +78,12 @@ most_whole (s ∷ steps) k F next old mid new some is made one rest =
     (steps_more (step_view k) (map step_view steps) F next old mid new made one (subst (λ (ss : List Step). RisesAtMost (most_kernels_of (map step_view ss) next) mid new) others rest))
 
 -- the first of some steps, before the others
-pub answer_whole : (steps : List Step) (k : Step) (cs next : List Series) (r : Result (List Series) PxError) → 1 ≤ length steps → k ≡ get_or steps 0 k → StepAnswers (Ok next) (step_view k) cs
-    → StepsAnswer r (map step_view (take (length steps - 1) (drop 1 steps))) next → StepsAnswer r (map step_view steps) cs
-answer_whole [] k cs next r some is one rest = absurd (omega arith)
-answer_whole (s ∷ steps) k cs next r some is one rest =
+pub answer_whole : (steps : List Step) (k : Step) (frame : Frame) (next : List Series) (r : Result (List Series) PxError) → 1 ≤ length steps → k ≡ get_or steps 0 k → StepAnswers (Ok next) (step_view k) frame
+    → StepsAnswer r (map step_view (take (length steps - 1) (drop 1 steps))) (with_columns frame next) → StepsAnswer r (map step_view steps) frame
+answer_whole [] k frame next r some is one rest = absurd (omega arith)
+answer_whole (s ∷ steps) k frame next r some is one rest =
     let others : take (length (s ∷ steps) - 1) (drop 1 (s ∷ steps)) ≡ steps = take_all (length (s ∷ steps) - 1) steps (omega arith) in
-    answer_first (step_view s) (map step_view steps) cs next r (subst (λ (x : Step). StepAnswers (Ok next) (step_view x) cs) is one) (subst (λ (ss : List Step). StepsAnswer r (map step_view ss) next) others rest)
+    answer_first (step_view s) (map step_view steps) frame next r (subst (λ (x : Step). StepAnswers (Ok next) (step_view x) frame) is one) (subst (λ (ss : List Step). StepsAnswer r (map step_view ss) (with_columns frame next)) others rest)
 
 -- where steps are valid, no cause stands
 pub none_stands : (steps : List PlainStep) (frame : Frame) (e : PxError) → AreValid steps frame → StandsIn e steps frame → ⊥
@@ -95,19 +98,19 @@ pub run_plain : (steps : List PlainStep) (frame last : Frame) → AreRun steps f
 run_plain [] frame last h = ap Some h
 run_plain (s ∷ steps) frame last h = ap (λ o. option_and_then (plain_on steps) o) h.1.0.made ∙ run_plain steps h.0 last h.1.1
 
-pub plain_told : (r : Result (List Series) PxError) (steps : List PlainStep) (cs : List Series) → StepsAnswer r steps cs → IfOk r (λ f. plain_on steps (alone cs) ≡ Some (alone f))
-plain_told (Ok f) steps cs h = run_plain steps (alone cs) (alone f) h
-plain_told (Err e) steps cs h = tt
+pub plain_told : (r : Result (List Series) PxError) (steps : List PlainStep) (frame : Frame) → StepsAnswer r steps frame → IfOk r (λ f. plain_on steps frame ≡ Some (with_columns frame f))
+plain_told (Ok f) steps frame h = run_plain steps frame (with_columns frame f) h
+plain_told (Err e) steps frame h = tt
 
-pub run_told : (r : Result (List Series) PxError) (steps : List PlainStep) (cs : List Series) → StepsAnswer r steps cs → IfOk r (λ f. AreRun steps (alone cs) (alone f))
-run_told (Ok f) steps cs h = h
-run_told (Err e) steps cs h = tt
+pub run_told : (r : Result (List Series) PxError) (steps : List PlainStep) (frame : Frame) → StepsAnswer r steps frame → IfOk r (λ f. AreRun steps frame (with_columns frame f))
+run_told (Ok f) steps frame h = h
+run_told (Err e) steps frame h = tt
 
-pub causes_told : (r : Result (List Series) PxError) (steps : List PlainStep) (cs : List Series) → StepsAnswer r steps cs → IfErr r (λ e. IsCauseIn e steps (alone cs))
-causes_told (Ok f) steps cs h = tt
-causes_told (Err e) steps cs h = h
+pub causes_told : (r : Result (List Series) PxError) (steps : List PlainStep) (frame : Frame) → StepsAnswer r steps frame → IfErr r (λ e. IsCauseIn e steps frame)
+causes_told (Ok f) steps frame h = tt
+causes_told (Err e) steps frame h = h
 
-pub complete_told : (r : Result (List Series) PxError) (steps : List PlainStep) (cs : List Series) → StepsAnswer r steps cs → AreValid steps (alone cs) → IfErr r (λ e. e ≡ OutOfMemory)
-complete_told (Ok f) steps cs h v = tt
-complete_told (Err e) steps cs (inl m) v = m
-complete_told (Err e) steps cs (inr c) v = absurd (none_stands steps (alone cs) e v c)
+pub complete_told : (r : Result (List Series) PxError) (steps : List PlainStep) (frame : Frame) → StepsAnswer r steps frame → AreValid steps frame → IfErr r (λ e. e ≡ OutOfMemory)
+complete_told (Ok f) steps frame h v = tt
+complete_told (Err e) steps frame (inl m) v = m
+complete_told (Err e) steps frame (inr c) v = absurd (none_stands steps frame e v c)

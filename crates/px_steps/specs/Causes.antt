@@ -5,8 +5,8 @@ use Rattle.px_value.specs.declared.error.PxError.{PxError}
 use Rattle.px_value.specs.declared.error.PxError.TheVariants.{ComputeError, OutOfMemory}
 use Rattle.px_value.specs.declared.error.ComputeWhy.TheVariants.{TooLong}
 use Rattle.px_answers.specs.Value.{IsOneOf}
-use Rattle.px_frame.specs.External.{Frame, alone, height}
-use Rattle.px_steps.specs.Plain.{first_refusal, step_faults, step_on, step_size}
+use Rattle.px_frame.specs.External.{Frame, height}
+use Rattle.px_steps.specs.Plain.{first_refusal, step_faults, step_on, step_size, with_columns}
 use Rattle.px_tree.specs.Step.{PlainStep}
 
 -- a step that is run on a frame: it is not refused, has no fault, and makes the next frame, of fewer than 2^32 rows
@@ -38,12 +38,12 @@ StandsIn e (s ∷ steps) frame =
 abbrev pub IsCauseIn : PxError → List PlainStep → Frame → Type 0
 IsCauseIn e steps frame = (e ≡ OutOfMemory) ⊎ StandsIn e steps frame
 
--- what a step answers: the frame that it makes, where it is run; or memory was wanting, or there is a cause
-abbrev pub StepAnswers : Result (List Series) PxError → PlainStep → List Series → Type 0
-StepAnswers (Ok made) s frame = IsRun s (alone frame) (alone made)
-StepAnswers (Err e) s frame = (e ≡ OutOfMemory) ⊎ IsStepCause e s (alone frame)
+-- what a step answers: the columns of the frame that it makes, where it is run; or memory was wanting, or there is a cause
+abbrev pub StepAnswers : Result (List Series) PxError → PlainStep → Frame → Type 0
+StepAnswers (Ok made) s frame = IsRun s frame (with_columns frame made)
+StepAnswers (Err e) s frame = (e ≡ OutOfMemory) ⊎ IsStepCause e s frame
 
--- what steps answer: the frame that they make, where they are run; or a cause
-abbrev pub StepsAnswer : Result (List Series) PxError → List PlainStep → List Series → Type 0
-StepsAnswer (Ok made) steps frame = AreRun steps (alone frame) (alone made)
-StepsAnswer (Err e) steps frame = IsCauseIn e steps (alone frame)
+-- what steps answer: the columns of the frame that they make, where they are run; or a cause
+abbrev pub StepsAnswer : Result (List Series) PxError → List PlainStep → Frame → Type 0
+StepsAnswer (Ok made) steps frame = AreRun steps frame (with_columns frame made)
+StepsAnswer (Err e) steps frame = IsCauseIn e steps frame

@@ -18,7 +18,7 @@ use Rattle.px_frame.specs.Groups.{first_row}
 use Rattle.px_frame.specs.Parts.{parts_of}
 use Rattle.px_frame.specs.Schema.{column_field}
 use Rattle.px_frame.specs.Spread.{NamedCell, spread, spread_column, spread_all, rows_beside, assembled}
-use Rattle.px_tree.specs.Cost.{cost_on, group_cost}
+use Rattle.px_tree.specs.Cost.{cost_on, group_cost, windows_in}
 use Rattle.px_tree.specs.Partition.{is_elementwise, is_partition_safe}
 use Rattle.px_tree.specs.Shape.{is_unit, name_of}
 use Rattle.px_tree.specs.Size.{size_on}
@@ -70,9 +70,13 @@ columns_made (filter e) frame = do
   Some (map (kept_series truths) frame.columns)
 columns_made (group keys aggs chunks) frame = each (key_on frame) keys >>= columns_on frame aggs
 
+-- the frame of these columns, beside which stands what stands beside another
+abbrev pub with_columns : Frame → List Series → Frame
+with_columns frame columns = record frame { columns = columns }
+
 -- the frame that a step makes of a frame; what stands beside it stays as it is
 abbrev pub step_on : PlainStep → Frame → Option Frame
-step_on s frame = option_map (λ columns. record frame { columns = columns }) (columns_made s frame)
+step_on s frame = option_map (with_columns frame) (columns_made s frame)
 
 -- the frame that steps make, one after another
 abbrev pub plain_on : List PlainStep → Frame → Option Frame
@@ -188,12 +192,14 @@ abbrev pub AreValid : List PlainStep → Frame → Type 0
 AreValid [] frame = Unit {0}
 AreValid (s ∷ steps) frame = IsValid s frame × ((next : Frame) → step_on s frame ≡ Some next → AreValid steps next)
 
--- how many times a step forms groups: for steps without windows and without chunks
+-- how many times a step groups rows: once for each window of its selections, its mask or its keys, and once for its own groups.
+-- An aggregation holds no window, since it stands on groups
 abbrev pub groupings_in : PlainStep → ℕ
-groupings_in (group keys aggs chunks) = 1
-groupings_in _ = 0
+groupings_in (select es) = sum_by windows_in es
+groupings_in (filter e) = windows_in e
+groupings_in (group keys aggs chunks) = sum_by windows_in keys + 1
 
--- how many times such steps form groups
+-- how many times some steps group rows
 abbrev pub groupings_of : List PlainStep → ℕ
 groupings_of steps = sum_by groupings_in steps
 

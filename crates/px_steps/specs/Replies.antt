@@ -16,7 +16,7 @@ Replies bytes (Frame text) = IsResult bytes text
 Replies bytes (Refusal text) = IsRefusal bytes text
 Replies bytes BadDocument = IsNoDocument bytes bad_document_line
 
--- a frame was made by one grouping for each group step of the document
+-- a frame was made by one grouping for each window and each group step of the document
 abbrev pub Grouped : List ℕ → Reply → ℕ → ℕ → Type 0
 Grouped bytes (Frame text) old new = (doc : Doc) → IsDocument bytes doc → new ≡ old + groupings_of doc.steps
 Grouped bytes (Refusal text) old new = Unit {0}

@@ -2,14 +2,14 @@
 ghost use Rattle.std.specs.Prelude.{◌≡◌, length, OnOk};
 ghost use Rattle.px_answers.specs.Counted.{RunExactly};
 ghost use Rattle.px_expr.specs.NodeView.{plan_of};
-ghost use Rattle.px_frame.specs.External.{alone};
 ghost use Rattle.px_frame.specs.Frame.{height_of};
 ghost use Rattle.px_frame.specs.Groups.{rows_of};
 ghost use Rattle.px_group_answers.specs.Counted.{RunOnGroups};
 ghost use Rattle.px_tree.specs.Size.{size_on};
 ghost use Rattle.px_tree.specs.declared.context.Context.TheVariants.{Aggregation};
-ghost use Rattle.px_steps.specs.Finds.{Finds, IsAccepted, node_tree, part_faults, part_frames};
+ghost use Rattle.px_steps.specs.Finds.{Finds, IsAccepted, agg_faults, node_tree, part_frames};
 ghost use Rattle.px_steps.specs.Plain.{aggregated_on};
+ghost use Rattle.px_window.specs.State.{beside};
 
 use px_column::{Column, Px, Steps};
 use px_expr::{PhysExpr, PhysicalExpr};
@@ -30,10 +30,10 @@ pub(crate) fn aggregate<L: Ledger, M: Ledger>(
     kernels: &mut Steps<L>,
     groupings: &mut Steps<M>,
 ) -> Px<Column>
-    requires accepted { IsAccepted (plan_of node.now) frame.now Aggregation }
+    requires accepted { IsAccepted (plan_of node.now) (beside frame.now state.old) Aggregation }
     requires height { groups.now.height ≡ height_of frame.now }
-    ensures answer { Finds result (aggregated_on (alone frame.now) (rows_of groups.now) (node_tree node.now))
-        (part_faults (alone frame.now) (rows_of groups.now) (node_tree node.now)) (size_on (node_tree node.now) (part_frames (alone frame.now) (rows_of groups.now))) }
+    ensures answer { Finds result (aggregated_on (beside frame.now state.old) (rows_of groups.now) (node_tree node.now))
+        (agg_faults (beside frame.now state.old) (rows_of groups.now) (node_tree node.now)) (size_on (node_tree node.now) (part_frames (beside frame.now state.old) (rows_of groups.now))) }
     ensures state { state.new ≡ state.old }
     ensures grouped { groupings.new ≡ groupings.old }
     ensures ticks { OnOk result (RunExactly (node_tree node.now) kernels.old kernels.new) }

@@ -3,14 +3,11 @@ ghost use Rattle.std.specs.Prelude.{◌≡◌, ◌+◌, ◌<◌, ◌≤◌, ◌^
 ghost use Rattle.std.specs.List.{flat_map, list_all, sum_by};
 ghost use Rattle.px_column.specs.Prelude.{Answers};
 ghost use Rattle.px_column.specs.Option.{each};
-ghost use Rattle.px_tree.specs.Built.{is_built_tree};
 ghost use Rattle.px_answers.specs.Counted.{RisesAtMost, costs_on, flat_kernels};
 ghost use Rattle.px_frame.specs.Aggregate.{has_row};
-ghost use Rattle.px_frame.specs.External.{alone};
 ghost use Rattle.px_frame.specs.Frame.{first_repeat, height_of, names_of};
 ghost use Rattle.px_frame.specs.Groups.{groups_by, rows_of};
 ghost use Rattle.px_frame.specs.Parts.{parts_of};
-ghost use Rattle.px_frame.specs.Schema.{column_field};
 ghost use Rattle.px_tree.specs.Shape.{name_of};
 ghost use Rattle.px_tree.specs.Size.{size_on};
 ghost use Rattle.px_tree.specs.View.{tree};
@@ -19,14 +16,17 @@ ghost use Rattle.px_expr.specs.NodeView.{plan_of};
 ghost use Rattle.px_expr.specs.Plan.{planned_over};
 ghost use Rattle.px_steps.specs.Finds.{is_key};
 ghost use Rattle.px_steps.specs.Causes.{StepAnswers};
-ghost use Rattle.px_steps.specs.Finds.{AreAccepted, Finds, FindsBy, group_plans, key_faults, node_tree, part_faults, part_frames, plans_over, typed_key_refusals};
+ghost use Rattle.px_steps.specs.Finds.{AreAccepted, Finds, FindsBy, agg_faults, group_plans, key_faults, node_tree, part_frames, plans_over, typed_group_refusals, typed_key_refusals};
 ghost use Rattle.px_document.specs.Form.{with_front};
 ghost use Rattle.px_steps.specs.Meets.{Meets, MeetsBy};
-ghost use Rattle.px_steps.specs.Plain.{aggregated_on, columns_on, greatest, group_costs, kernels_in, key_on, most_kernels_in, repeat_refusal, step_refusals};
+ghost use Rattle.px_steps.specs.Plain.{aggregated_on, columns_on, greatest, group_costs, groupings_in, kernels_in, key_on, most_kernels_in, repeat_refusal};
+ghost use Rattle.px_tree.specs.Cost.{windows_in};
 ghost use Rattle.px_tree.specs.Step.{group};
+ghost use Rattle.px_window.specs.State.{beside};
 
 use crate::aggregation::aggregate;
 use crate::planning::{add_names, plan_all, plan_typed, spread_value};
+use crate::scope::step_schema;
 use indexmap::IndexSet;
 use px_column::{Column, ComputeWhy, InvalidWhy, Px, PxError, Steps};
 use px_expr::PhysExpr;
@@ -34,7 +34,6 @@ use px_frame::{DataFrame, GroupPositions, SchemaRef, group_by, key_rows};
 use px_plan::{Context, Expr};
 use px_window::ExecutionState;
 use std::alloc::Global;
-use std::rc::Rc;
 use std::sync::ledger::Ledger;
 
 /// The nodes of a group step's expressions.
@@ -46,7 +45,6 @@ struct GroupNodes {
 
 /// The node of a key over a schema, unless it is refused or is a list.
 fn plan_key(alloc: Global, key: &Expr, schema: &SchemaRef) -> Px<PhysExpr>
-    requires { is_built_tree (tree key.now) ≡ true }
     ensures { MeetsBy plan_of result (typed_key_refusals schema.now.value (tree key.now)) (Some (planned_over schema.now.value (tree key.now))) }
 {
     let (node, dtype) = plan_typed(alloc, key, schema, Context::Default)?;
@@ -60,7 +58,6 @@ fn plan_key(alloc: Global, key: &Expr, schema: &SchemaRef) -> Px<PhysExpr>
 /// The nodes of the keys over a schema, in their order, or the first refusal from the left.
 #[tactic(auto, using(crate::proofs::Named::IsFirst_append))]
 fn plan_keys(alloc: Global, keys: &[Expr], schema: &SchemaRef) -> Px<Vec<PhysExpr>>
-    requires { list_all is_built_tree (map tree keys.now) ≡ true }
     ensures { MeetsBy (λ v. map plan_of v.items) result (flat_map (typed_key_refusals schema.now.value) (map tree keys.now))
         (Some (map (planned_over schema.now.value) (map tree keys.now))) }
 {
@@ -80,19 +77,16 @@ fn distinct_names(alloc: Global, keys: &[Expr], aggs: &[Expr]) -> Px<()>
     add_names(alloc, &mut names, aggs)
 }
 
-/// The nodes of a step over a frame, or the first refusal of the step.
-fn plan_step(alloc: Global, frame: &DataFrame, keys: &[Expr], aggs: &[Expr]) -> Px<GroupNodes>
-    requires keys { list_all is_built_tree (map tree keys.now) ≡ true }
-    requires aggs { list_all is_built_tree (map tree aggs.now) ≡ true }
-    ensures { MeetsBy group_plans result (step_refusals (group (map tree keys.now) (map tree aggs.now) None) (alone frame.now))
-        (Some (plans_over (map column_field frame.now) (map tree keys.now) (map tree aggs.now))) }
+/// The nodes of a step over a schema, or the first refusal of the step.
+fn plan_step(alloc: Global, schema: &SchemaRef, keys: &[Expr], aggs: &[Expr]) -> Px<GroupNodes>
+    ensures { MeetsBy group_plans result (typed_group_refusals schema.now.value (map tree keys.now) (map tree aggs.now))
+        (Some (plans_over schema.now.value (map tree keys.now) (map tree aggs.now))) }
 {
-    let schema = Rc::new(alloc, frame.schema(alloc)?)?;
     if keys.is_empty() {
         return Err(PxError::ComputeError(ComputeWhy::NoKey));
     }
-    let key_nodes = plan_keys(alloc, keys, &schema)?;
-    let agg_nodes = plan_all(alloc, aggs, &schema, Context::Aggregation)?;
+    let key_nodes = plan_keys(alloc, keys, schema)?;
+    let agg_nodes = plan_all(alloc, aggs, schema, Context::Aggregation)?;
     distinct_names(alloc, keys, aggs)?;
     Ok(GroupNodes {
         keys: key_nodes,
@@ -109,13 +103,15 @@ fn key_columns<L: Ledger, M: Ledger>(
     kernels: &mut Steps<L>,
     groupings: &mut Steps<M>,
 ) -> Px<Vec<Column>>
-    requires { AreAccepted (map plan_of keys.now) frame.now Default }
-    ensures answer { FindsBy (λ v. v.items) result (each (key_on (alone frame.now)) (map node_tree keys.now))
-        (flat_map (key_faults (alone frame.now)) (map node_tree keys.now)) (greatest (map (λ t. size_on t (alone frame.now ∷ [])) (map node_tree keys.now))) }
+    requires { AreAccepted (map plan_of keys.now) (beside frame.now state.old) Default }
+    ensures answer { FindsBy (λ v. v.items) result (each (key_on (beside frame.now state.old)) (map node_tree keys.now))
+        (flat_map (key_faults (beside frame.now state.old)) (map node_tree keys.now)) (greatest (map (λ t. size_on t (beside frame.now state.old ∷ [])) (map node_tree keys.now))) }
     ensures state { state.new ≡ state.old }
-    ensures grouped { groupings.new ≡ groupings.old }
+    ensures grouped { OnOk result (groupings.new ≡ groupings.old + sum_by windows_in (map node_tree keys.now)) }
+    ensures risen { groupings.old ≤ groupings.new }
+    ensures within { groupings.new ≤ groupings.old + sum_by windows_in (map node_tree keys.now) }
     ensures ticks { OnOk result (kernels.old + sum_by flat_kernels (map node_tree keys.now) ≤ kernels.new) }
-    ensures most { OnOk result (RisesAtMost (costs_on (map node_tree keys.now) (alone frame.now)) kernels.old kernels.new) }
+    ensures most { OnOk result (RisesAtMost (costs_on (map node_tree keys.now) (beside frame.now state.old)) kernels.old kernels.new) }
 {
     let mut columns = Vec::with_capacity(alloc, keys.len())?;
     for key in keys {
@@ -135,10 +131,10 @@ fn push_aggregations<L: Ledger, M: Ledger>(
     kernels: &mut Steps<L>,
     groupings: &mut Steps<M>,
 ) -> Px<()>
-    requires accepted { AreAccepted (map plan_of aggs.now) frame.now Aggregation }
+    requires accepted { AreAccepted (map plan_of aggs.now) (beside frame.now state.old) Aggregation }
     requires height { groups.now.height ≡ height_of frame.now }
-    ensures answer { FindsBy (λ _. columns.new.items) result (with_front columns.old.items (each (aggregated_on (alone frame.now) (rows_of groups.now)) (map node_tree aggs.now)))
-        (flat_map (part_faults (alone frame.now) (rows_of groups.now)) (map node_tree aggs.now)) (greatest (map (λ t. size_on t (part_frames (alone frame.now) (rows_of groups.now))) (map node_tree aggs.now))) }
+    ensures answer { FindsBy (λ _. columns.new.items) result (with_front columns.old.items (each (aggregated_on (beside frame.now state.old) (rows_of groups.now)) (map node_tree aggs.now)))
+        (flat_map (agg_faults (beside frame.now state.old) (rows_of groups.now)) (map node_tree aggs.now)) (greatest (map (λ t. size_on t (part_frames (beside frame.now state.old) (rows_of groups.now))) (map node_tree aggs.now))) }
     ensures state { state.new ≡ state.old }
     ensures grouped { groupings.new ≡ groupings.old }
     ensures ticks { OnOk result (kernels.old + sum_by flat_kernels (map node_tree aggs.now) ≤ kernels.new) }
@@ -182,10 +178,10 @@ fn grouped_frame<L: Ledger, M: Ledger>(
     requires some { 0 < length by.now }
     requires keys { list_all (is_key frame.now) by.now ≡ true }
     requires names { first_repeat [] (names_of by.now ++ map name_of (map node_tree aggs.now)) ≡ None }
-    requires accepted { AreAccepted (map plan_of aggs.now) frame.now Aggregation }
-    ensures answer { Finds result (columns_on (alone frame.now) (map node_tree aggs.now) by.now)
-        (flat_map (part_faults (alone frame.now) (parts_of by.now (height_of frame.now))) (map node_tree aggs.now))
-        (greatest (map (λ t. size_on t (part_frames (alone frame.now) (parts_of by.now (height_of frame.now)))) (map node_tree aggs.now))) }
+    requires accepted { AreAccepted (map plan_of aggs.now) (beside frame.now state.old) Aggregation }
+    ensures answer { Finds result (columns_on (beside frame.now state.old) (map node_tree aggs.now) by.now)
+        (flat_map (agg_faults (beside frame.now state.old) (parts_of by.now (height_of frame.now))) (map node_tree aggs.now))
+        (greatest (map (λ t. size_on t (part_frames (beside frame.now state.old) (parts_of by.now (height_of frame.now)))) (map node_tree aggs.now))) }
     ensures short { IfOk result (λ f. height_of f < 2 ^ 32) }
     ensures state { state.new ≡ state.old }
     ensures grouped { groupings.new ≡ groupings.old + 1 }
@@ -219,16 +215,16 @@ pub(crate) fn group_step<L: Ledger, M: Ledger>(
     kernels: &mut Steps<L>,
     groupings: &mut Steps<M>,
 ) -> Px<DataFrame>
-    requires keys { list_all is_built_tree (map tree keys.now) ≡ true }
-    requires aggs { list_all is_built_tree (map tree aggs.now) ≡ true }
-    ensures answer { StepAnswers result (group (map tree keys.now) (map tree aggs.now) None) frame.now }
+    ensures answer { StepAnswers result (group (map tree keys.now) (map tree aggs.now) None) (beside frame.now state.old) }
     ensures state { state.new ≡ state.old }
-    ensures grouped { OnOk result (groupings.new ≡ groupings.old + 1) }
-    ensures once { groupings.new ≤ groupings.old + 1 }
+    ensures grouped { OnOk result (groupings.new ≡ groupings.old + groupings_in (group (map tree keys.now) (map tree aggs.now) None)) }
+    ensures risen { groupings.old ≤ groupings.new }
+    ensures within { groupings.new ≤ groupings.old + groupings_in (group (map tree keys.now) (map tree aggs.now) None) }
     ensures ticks { OnOk result (kernels.old + kernels_in (group (map tree keys.now) (map tree aggs.now) None) ≤ kernels.new) }
-    ensures most { OnOk result (RisesAtMost (most_kernels_in (group (map tree keys.now) (map tree aggs.now) None) (alone frame.now)) kernels.old kernels.new) }
+    ensures most { OnOk result (RisesAtMost (most_kernels_in (group (map tree keys.now) (map tree aggs.now) None) (beside frame.now state.old)) kernels.old kernels.new) }
 {
-    let nodes = plan_step(alloc, frame, keys, aggs)?;
+    let schema = step_schema(alloc, frame, state)?;
+    let nodes = plan_step(alloc, &schema, keys, aggs)?;
     let by = key_columns(alloc, frame, &nodes.keys, state, kernels, groupings)?;
     grouped_frame(alloc, frame, &by, &nodes.aggs, state, kernels, groupings)
 }

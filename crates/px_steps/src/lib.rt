@@ -8,6 +8,7 @@ mod planning;
 mod reply;
 pub mod run;
 mod runner;
+mod scope;
 mod select_step;
 mod status;
 
@@ -16,6 +17,6 @@ pub use px_ends::{
     LIMIT, MemorySink, MemorySource, Sink, SinkFailed, Source, SourceFailed, StdinSource,
     StdoutSink,
 };
-pub use px_tree::{Step, are_built};
+pub use px_tree::{Step, are_unchunked};
 pub use runner::run_steps;
 pub use status::Status;

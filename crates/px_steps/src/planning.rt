@@ -1,13 +1,11 @@
 //! Expressions as nodes, and what these give on a frame.
-ghost use Rattle.std.specs.Prelude.{◌≡◌, ◌+◌, ◌≤◌, ◌++◌, ◌∷◌, [], Some, IfOk, OnOk, map, true};
-ghost use Rattle.std.specs.List.{flat_map, list_all};
-ghost use Rattle.px_tree.specs.Built.{is_built_tree};
+ghost use Rattle.std.specs.Prelude.{◌≡◌, ◌+◌, ◌≤◌, ◌++◌, ◌∷◌, [], Some, IfOk, OnOk, map};
+ghost use Rattle.std.specs.List.{flat_map};
 ghost use Rattle.px_answers.specs.Counted.{RisesAtMost, flat_kernels};
 ghost use Rattle.px_expr.specs.NodeView.{plan_of};
 ghost use Rattle.px_expr.specs.Plan.{planned_over};
 ghost use Rattle.px_column.specs.Prelude.{kind_of};
-ghost use Rattle.px_frame.specs.External.{alone};
-ghost use Rattle.px_tree.specs.Cost.{cost_on};
+ghost use Rattle.px_tree.specs.Cost.{cost_on, windows_in};
 ghost use Rattle.px_tree.specs.Shape.{name_of};
 ghost use Rattle.px_tree.specs.Size.{size_on};
 ghost use Rattle.px_tree.specs.Typing.{kind_in, refusals_of};
@@ -16,6 +14,7 @@ ghost use Rattle.px_tree.specs.declared.context.Context.TheVariants.{Default};
 ghost use Rattle.px_steps.specs.Finds.{Finds, IsAccepted, key_faults, node_tree, repeat_beside};
 ghost use Rattle.px_steps.specs.Meets.{Meets, MeetsBy};
 ghost use Rattle.px_steps.specs.Plain.{key_on};
+ghost use Rattle.px_window.specs.State.{beside};
 
 use indexmap::IndexSet;
 use px_column::{Column, DataType, Name, Px, PxError, Steps};
@@ -34,7 +33,6 @@ pub(crate) fn plan_typed(
     schema: &SchemaRef,
     context: Context,
 ) -> Px<(PhysExpr, DataType)>
-    requires { is_built_tree (tree expr.now) ≡ true }
     ensures node { MeetsBy (λ p. plan_of p.0) result (refusals_of (tree expr.now) schema.now.value context) (Some (planned_over schema.now.value (tree expr.now))) }
     ensures dtype { IfOk result (λ p. kind_in (tree expr.now) schema.now.value ≡ Some (kind_of p.1)) }
 {
@@ -50,7 +48,6 @@ pub(crate) fn plan_typed(
 
 /// The node alone.
 fn plan_expr(alloc: Global, expr: &Expr, schema: &SchemaRef, context: Context) -> Px<PhysExpr>
-    requires { is_built_tree (tree expr.now) ≡ true }
     ensures { MeetsBy plan_of result (refusals_of (tree expr.now) schema.now.value context) (Some (planned_over schema.now.value (tree expr.now))) }
 {
     let (node, _) = plan_typed(alloc, expr, schema, context)?;
@@ -65,7 +62,6 @@ pub(crate) fn plan_all(
     schema: &SchemaRef,
     context: Context,
 ) -> Px<Vec<PhysExpr>>
-    requires { list_all is_built_tree (map tree exprs.now) ≡ true }
     ensures { MeetsBy (λ v. map plan_of v.items) result (flat_map (λ t. refusals_of t schema.now.value context) (map tree exprs.now))
         (Some (map (planned_over schema.now.value) (map tree exprs.now))) }
 {
@@ -87,7 +83,7 @@ pub(crate) fn add_names(alloc: Global, names: &mut IndexSet<Name>, exprs: &[Expr
     Ok(())
 }
 
-/// A node's value, brought to the frame's height.
+/// A node's value, brought to the frame's height. Rows are grouped once for each of its windows.
 pub(crate) fn spread_value<L: Ledger, M: Ledger>(
     alloc: Global,
     frame: &DataFrame,
@@ -96,12 +92,14 @@ pub(crate) fn spread_value<L: Ledger, M: Ledger>(
     kernels: &mut Steps<L>,
     groupings: &mut Steps<M>,
 ) -> Px<Column>
-    requires { IsAccepted (plan_of node.now) frame.now Default }
-    ensures answer { Finds result (key_on (alone frame.now) (node_tree node.now)) (key_faults (alone frame.now) (node_tree node.now)) (size_on (node_tree node.now) (alone frame.now ∷ [])) }
+    requires { IsAccepted (plan_of node.now) (beside frame.now state.old) Default }
+    ensures answer { Finds result (key_on (beside frame.now state.old) (node_tree node.now)) (key_faults (beside frame.now state.old) (node_tree node.now)) (size_on (node_tree node.now) (beside frame.now state.old ∷ [])) }
     ensures state { state.new ≡ state.old }
-    ensures grouped { groupings.new ≡ groupings.old }
+    ensures grouped { OnOk result (groupings.new ≡ groupings.old + windows_in (node_tree node.now)) }
+    ensures risen { groupings.old ≤ groupings.new }
+    ensures within { groupings.new ≤ groupings.old + windows_in (node_tree node.now) }
     ensures ticks { OnOk result (kernels.old + flat_kernels (node_tree node.now) ≤ kernels.new) }
-    ensures most { OnOk result (RisesAtMost (cost_on (node_tree node.now) (alone frame.now)) kernels.old kernels.new) }
+    ensures most { OnOk result (RisesAtMost (cost_on (node_tree node.now) (beside frame.now state.old)) kernels.old kernels.new) }
 {
     let cell = evaluate_cell(alloc, node, frame, state, kernels, groupings)?;
     spread(alloc, cell, frame.height())

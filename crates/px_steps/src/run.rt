@@ -176,7 +176,7 @@ pub fn run<S: Source, K: Sink, L: Ledger, M: Ledger>(
         Calm (S.faults source.old) (S.faults source.new) →
         Calm (K.faults sink.old) (K.faults sink.new) →
         (result ≡ Status.Done) ⊎ (result ≡ Status.OutOfMemory) }
-    // A frame is made by one grouping for each group step.
+    // A frame is made by one grouping for each window and each group step.
     ensures grouped { (b : List ℕ) (doc : Doc) →
         result ≡ Status.Done →
         S.left source.old ≡ Some b →

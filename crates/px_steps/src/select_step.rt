@@ -1,16 +1,15 @@
 //! A select step: the columns of some expressions, side by side.
-ghost use Rattle.std.specs.Prelude.{◌≡◌, ◌+◌, ◌≤◌, Some, OnOk, map, true};
-ghost use Rattle.std.specs.List.{list_all};
+ghost use Rattle.std.specs.Prelude.{◌≡◌, ◌+◌, ◌≤◌, Some, OnOk, map};
 ghost use Rattle.px_answers.specs.Counted.{RisesAtMost};
-ghost use Rattle.px_frame.specs.External.{alone};
-ghost use Rattle.px_tree.specs.Built.{is_built_tree};
 ghost use Rattle.px_tree.specs.Step.{select};
 ghost use Rattle.px_tree.specs.View.{tree};
 ghost use Rattle.px_steps.specs.Causes.{StepAnswers};
 ghost use Rattle.px_steps.specs.Meets.{Meets};
-ghost use Rattle.px_steps.specs.Plain.{kernels_in, most_kernels_in, repeat_refusal};
+ghost use Rattle.px_steps.specs.Plain.{groupings_in, kernels_in, most_kernels_in, repeat_refusal};
+ghost use Rattle.px_window.specs.State.{beside};
 
 use crate::planning::{add_names, plan_all};
+use crate::scope::step_schema;
 use indexmap::IndexSet;
 use px_column::{Px, Steps};
 use px_expr::evaluate_cells;
@@ -18,7 +17,6 @@ use px_frame::{DataFrame, assemble};
 use px_plan::{Context, Expr};
 use px_window::ExecutionState;
 use std::alloc::Global;
-use std::rc::Rc;
 use std::sync::ledger::Ledger;
 
 /// Nothing, unless a name stands twice.
@@ -39,14 +37,15 @@ pub(crate) fn select_step<L: Ledger, M: Ledger>(
     kernels: &mut Steps<L>,
     groupings: &mut Steps<M>,
 ) -> Px<DataFrame>
-    requires { list_all is_built_tree (map tree exprs.now) ≡ true }
-    ensures answer { StepAnswers result (select (map tree exprs.now)) frame.now }
+    ensures answer { StepAnswers result (select (map tree exprs.now)) (beside frame.now state.old) }
     ensures state { state.new ≡ state.old }
-    ensures grouped { groupings.new ≡ groupings.old }
+    ensures grouped { OnOk result (groupings.new ≡ groupings.old + groupings_in (select (map tree exprs.now))) }
+    ensures risen { groupings.old ≤ groupings.new }
+    ensures within { groupings.new ≤ groupings.old + groupings_in (select (map tree exprs.now)) }
     ensures ticks { OnOk result (kernels.old + kernels_in (select (map tree exprs.now)) ≤ kernels.new) }
-    ensures most { OnOk result (RisesAtMost (most_kernels_in (select (map tree exprs.now)) (alone frame.now)) kernels.old kernels.new) }
+    ensures most { OnOk result (RisesAtMost (most_kernels_in (select (map tree exprs.now)) (beside frame.now state.old)) kernels.old kernels.new) }
 {
-    let schema = Rc::new(alloc, frame.schema(alloc)?)?;
+    let schema = step_schema(alloc, frame, state)?;
     let nodes = plan_all(alloc, exprs, &schema, Context::Default)?;
     distinct_names(alloc, exprs)?;
     let cells = evaluate_cells(alloc, &nodes, frame, state, kernels, groupings)?;

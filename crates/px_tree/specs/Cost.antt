@@ -133,3 +133,31 @@ abbrev mutual
   pub order_keys_on : Order → Frame → List WindowKey
   order_keys_on no_order frame = []
   order_keys_on (ordered t options) frame = keys_on t frame
+
+abbrev mutual
+  -- how often rows are grouped for the windows of an expression: once for each of them. A window's function holds none, since no
+  -- window stands on groups
+  pub windows_in : Tree → ℕ
+  windows_in (alias e n) = windows_in e
+  windows_in (binary l op r) = windows_in l + windows_in r
+  windows_in (ternary p a b) = windows_in p + windows_in a + windows_in b
+  windows_in (cast e k options) = windows_in e
+  windows_in (function es f) = all_windows_in es
+  windows_in (filter e by) = windows_in e + windows_in by
+  windows_in (slice e offset length) = windows_in e + windows_in offset + windows_in length
+  windows_in (gather e idx one) = windows_in e + windows_in idx
+  windows_in (sort e options) = windows_in e
+  windows_in (sort_by e by options) = windows_in e + all_windows_in by
+  windows_in (agg m e) = windows_in e
+  windows_in (window f keys order mapping) = all_windows_in keys + order_windows_in order + 1
+  windows_in _ = 0
+
+  -- the same of some expressions together
+  pub all_windows_in : Trees → ℕ
+  all_windows_in no_trees = 0
+  all_windows_in (one_tree t ts) = windows_in t + all_windows_in ts
+
+  -- the same of what an order is by
+  pub order_windows_in : Order → ℕ
+  order_windows_in no_order = 0
+  order_windows_in (ordered t options) = windows_in t

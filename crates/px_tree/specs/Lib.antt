@@ -12,4 +12,4 @@ pub mod Partition
 pub mod Cost
 pub mod TreeCode
 pub mod Step
-pub mod Built
+pub mod Chunks

@@ -177,7 +177,6 @@ abbrev mutual
 abbrev pub is_misfit : Frame → List ℕ → Bool
 is_misfit frame n = not (is_some (look n frame.columns)) && option_map_or (λ s. not (has_height (height frame) s)) (look n frame.external) false
 
--- an expression names such a column: for expressions without windows, which read all their columns on this frame, and without
--- names behind the reserved prefix, which are sought in the frame alone
+-- an expression names such a column; a window's function, keys and order count, on the whole frame
 abbrev pub has_misfit : Tree → Frame → Bool
 has_misfit e frame = list_any (is_misfit frame) (leaf_names e)

@@ -1,7 +1,7 @@
 //! Expressions and steps, their names, and what they mean on a frame.
 #![tactic(auto)]
 
-mod built;
+mod chunks;
 mod context;
 mod copy;
 mod expr;
@@ -12,7 +12,7 @@ mod step;
 mod window;
 mod windows;
 
-pub use built::{are_built, is_built};
+pub use chunks::are_unchunked;
 pub use context::Context;
 pub use expr::{AggExpr, Expr, Exprs};
 pub use function::FunctionExpr;

@@ -6,7 +6,7 @@ use indexmap::IndexSet;
 use px_column::{CastOptions, Column, DataType, GroupByMethod, Name, Px, PxError, Steps};
 use px_expr::{
     AggregationExpr, AggregationType, ColumnExpr, ExpressionConversionState, LiteralExpr, PhysExpr,
-    PhysicalExpr, create_physical_expr, is_built,
+    PhysicalExpr, create_physical_expr,
 };
 use px_frame::{DataFrame, Field, Schema, SchemaRef};
 use px_plan::{
@@ -36,7 +36,7 @@ fn five_under(alloc: Global, aliases: u32) -> Px<Expr> {
 // The node of an expression that reads no column.
 fn planned(alloc: Global, expr: &Expr) -> Px<PhysExpr> {
     let mut arena = Arena::new(alloc)?;
-    if !is_built(expr) || !fits_arena(expr, &arena) {
+    if !fits_arena(expr, &arena) {
         return Err(PxError::OutOfBounds);
     }
     let expr = ExprIR::new(to_arena(alloc, expr, &mut arena)?, None);

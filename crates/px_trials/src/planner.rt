@@ -6,7 +6,7 @@ use crate::told::{four_rows, refused};
 use px_column::{ComputeWhy, Name, Px, PxError};
 use px_expr::{
     ExpressionConversionState, LocalConversionState, PhysExpr, create_physical_expr,
-    create_physical_expressions_from_irs, get_expr_depth_limit, is_built,
+    create_physical_expressions_from_irs, get_expr_depth_limit,
 };
 use px_frame::SchemaRef;
 use px_plan::{Arena, Context, Expr, ExprIR, fits_arena, to_arena};
@@ -20,7 +20,7 @@ fn column_in(alloc: Global, name: &str, arena: &mut Arena) -> Px<ExprIR>
     ensures { IfOk result (IsPlannable arena.new) }
 {
     let expr = Expr::Column(Name::new(alloc, name)?);
-    if !is_built(&expr) || !fits_arena(&expr, arena) {
+    if !fits_arena(&expr, arena) {
         return Err(PxError::OutOfBounds);
     }
     Ok(ExprIR::new(to_arena(alloc, &expr, arena)?, None))

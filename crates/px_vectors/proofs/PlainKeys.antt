@@ -1,6 +1,6 @@
 -- A column that is found by its name, and a key as a column, or why it is refused.
 use Rattle.std.proofs.Common.{◌≡◌, ℕ, ◌==◌, Bool, true, false, not, List, [], ◌∷◌, Some, None, length, map, option_map, refl, sym, ◌∙◌, ap}
-use Rattle.px_column.specs.Prelude.{Kind, is_list_kind, Series}
+use Rattle.px_column.specs.Prelude.{is_list_kind, Series}
 use Rattle.px_value.specs.declared.error.PxError.TheVariants.{ColumnNotFound, InvalidOperation}
 use Rattle.px_value.specs.declared.error.InvalidWhy.TheVariants.{ListKey}
 use Rattle.px_frame.specs.External.{alone}

@@ -1,5 +1,5 @@
 -- The values of keys and aggregations.
-use Rattle.std.proofs.Common.{◌≡◌, ℕ, ◌+◌, ◌<◌, Bool, true, false, cond, List, [], ◌∷◌, ◌++◌, Option, Some, None, Result, Ok, Err, length, map, drop, get_or, refl, sym, ◌∙◌, ap, add-one, append_assoc, drop-cons, option_map, option_and_then}
+use Rattle.std.proofs.Common.{◌≡◌, ℕ, ◌+◌, ◌<◌, List, [], ◌∷◌, ◌++◌, Option, Some, None, Result, Ok, Err, length, map, drop, get_or, refl, sym, ◌∙◌, ap, add-one, append_assoc, drop-cons, option_map, option_and_then}
 use Rattle.std.proofs.lemmas.List.{map_push}
 use Rattle.std.specs.Option.{ok_or, option_map_or}
 use Rattle.px_column.specs.Prelude.{Answers, kind_of, Datum, integer, Slot, Kind, Series, slot_at, slot_of, slots_of}
@@ -20,7 +20,7 @@ use Rattle.px_value.specs.declared.error.InvalidWhy.TheVariants.{Types}
 use Rattle.px_tree.specs.Shape.{name_of}
 use Rattle.px_tree.specs.Typing.{kind_in}
 use Rattle.px_tree.specs.Value.{value_on}
-use Rattle.px_tree.specs.Tree.{Tree, column, agg, len}
+use Rattle.px_tree.specs.Tree.{Tree, column, agg}
 use Rattle.px_steps.specs.Meets.{Meets, MeetsBy}
 use Rattle.px_steps.proofs.Named.{refuses_none}
 use Rattle.px_value.specs.declared.data_type.DataType.{DataType}

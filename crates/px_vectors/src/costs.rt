@@ -6,10 +6,11 @@ ghost use Rattle.px_value.specs.declared.cast_options.CastOptions.TheVariants.{N
 ghost use Rattle.px_value.specs.declared.operator.Operator.TheVariants.{Plus};
 ghost use Rattle.px_frame.specs.External.{scope_of};
 ghost use Rattle.px_tree.specs.Core.{is_core};
-ghost use Rattle.px_tree.specs.Cost.{cost_on, group_cost, is_flat, keys_on, ticks_of};
+ghost use Rattle.px_tree.specs.Cost.{cost_on, group_cost, is_flat, keys_on, ticks_of, windows_in};
 ghost use Rattle.px_tree.specs.Tree.{no_trees, one_tree, ordered, binary, cast, filter, ternary, window};
 ghost use Rattle.px_tree.specs.declared.window.WindowMapping.TheVariants.{Explode, GroupsToRows};
-ghost use Rattle.px_vectors.specs.Examples.{column_of, falling, four, greater, int, k, nums, over_k, reversed, sum_of, x};
+ghost use Rattle.px_steps.specs.Plain.{groupings_in, groupings_of};
+ghost use Rattle.px_vectors.specs.Examples.{by_key, column_of, falling, four, greater, int, k, nums, over_k, reversed, sales_report, sum_of, x};
 
 /// Core expressions, and what evaluating an expression costs: on a frame, on groups, and in groupings.
 pub fn cost_examples()
@@ -33,4 +34,11 @@ pub fn cost_examples()
     ensures window_keys { keys_on (over_k (sum_of x) GroupsToRows) four
         ≡ record { keys = column_of (codes "k") int64s (nums (7 ∷ 9 ∷ 7 ∷ 7 ∷ [])) ∷ []; order = None } ∷ [] }
     ensures no_keys { keys_on (sum_of x) four ≡ [] }
+    // Rows are grouped once for each window, also for one in a key or an order of another.
+    ensures two_windows { windows_in (binary (over_k (sum_of x) GroupsToRows) Plus (over_k x GroupsToRows)) ≡ 2 }
+    ensures inner_windows { windows_in (window x (one_tree (over_k x GroupsToRows) no_trees) (ordered (over_k (sum_of x) GroupsToRows) falling) Explode) ≡ 3 }
+    ensures no_window { windows_in (sum_of x) ≡ 0 }
+    // And once for each group step.
+    ensures step_groupings { groupings_in (by_key (over_k x GroupsToRows) (sum_of x ∷ [])) ≡ 2 }
+    ensures report_groupings { groupings_of sales_report ≡ 2 }
 {}

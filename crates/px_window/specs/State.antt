@@ -1,11 +1,12 @@
 -- What contracts see of the state of an evaluation.
 use Rattle.std.specs.Prelude.{ℕ, ℤ, pos, Bool, false, not, List, [], Option, None, Result, Ok, Err, is_some, filter, nat_eq, refl, unwrap_or, if◌then◌else◌}
 use Rattle.std.specs.Coded.{Coded, code_by, coded×, coded_ℕ, coded_ℤ, coded_bool, coded_list, coded_option}
-use Rattle.std.specs.List.{position_or_len}
+use Rattle.std.specs.List.{flat_map, position_or_len}
 use Rattle.std.specs.Map.{keys_of, lookup}
 use Rattle.indexmap.specs.IndexMap.{insert_entry, set_value_at}
 use Rattle.px_column.specs.Prelude.{Series}
 use Rattle.px_column.specs.Series.{coded_series}
+use Rattle.px_frame.specs.External.{Frame}
 use Rattle.px_frame.specs.Schema.{FieldKind, coded_field}
 use Rattle.px_value.specs.declared.error.PxError.{PxError}
 use Rattle.px_value.specs.declared.error.PxError.TheVariants.{ComputeError}
@@ -48,6 +49,14 @@ new_state verbose = record {
   is_stopped = false;
   df_cache = [];
 }
+
+-- the columns of the frames from outside, one frame after another
+abbrev pub external_columns : State → List Series
+external_columns s = flat_map (λ f. f) s.ext_contexts
+
+-- a frame's columns with those beside them
+abbrev pub beside : List Series → State → Frame
+beside columns s = record { columns = columns; external = external_columns s }
 
 -- an evaluation that is to stop is interrupted
 abbrev pub unless_stopped : Bool → Result (Unit {0}) PxError

@@ -1,11 +1,11 @@
-use Rattle.std.proofs.Common.{map, refl, rules, sym, ap}
-use Rattle.px_answers.specs.Live.{AddsFront, live_names}
+use Rattle.std.proofs.Common.{◌≡◌, map, refl, rules, sym, ap}
+use Rattle.px_answers.specs.Live.{AddsFront, added, live_names, order_live_names}
 use Rattle.px_answers.specs.Planned.{Planned}
 use Rattle.px_answers.specs.Live.{all_live_names}
 use Rattle.px_expr.specs.NodeView.{plan_of}
-use Rattle.px_answers.specs.Parts.{binary_plan, filter_plan, gather_plan, plan_trees, slice_plan, sort_by_plan, ternary_plan}
-use Rattle.std.proofs.lemmas.Result.{on_err_weaker}
-use Rattle.px_expr.proofs.LiveNames.{front_after, front_at, front_first, front_next, front_second, front_third, names_done, names_next}
+use Rattle.px_answers.specs.Parts.{binary_plan, filter_plan, gather_plan, plan_trees, slice_plan, plan_order, sort_by_plan, ternary_plan, under, window_plan}
+use Rattle.std.proofs.lemmas.Result.{on_err_weaker, on_ok_weaker}
+use Rattle.px_expr.proofs.LiveNames.{front_after, front_at, front_first, front_next, front_second, front_third, names_done, names_next, window_front, window_live, window_unnamed}
 use Rattle.px_answers.proofs.Names.{alias_front, alias_whole, front_more}
 use Rattle.px_expr.proofs.+live.Goals as goal
 use Rattle.px_arena.proofs.Adding.{OnErr-of}
@@ -81,6 +81,33 @@ ternary::TernaryExprPhysicalExpr::collect_live_columns-returns-in_err-collect_li
 pub ternary::TernaryExprPhysicalExpr::collect_live_columns-returns-clause-part : goal.ternary::TernaryExprPhysicalExpr::collect_live_columns-returns-clause-part
 ternary::TernaryExprPhysicalExpr::collect_live_columns-returns-clause-part t c =
     on_err_weaker _ (front_third c.args.lv.now.keys c.collect_live_columns.new.lv.keys c.collect_live_columns-2.new.lv.keys c.collect_live_columns-3.new.lv.keys (live_names c.args.self.now.predicate.tree) (live_names c.args.self.now.truthy.tree) (live_names c.args.self.now.falsy.tree) (search rules) (search rules)) (search rules)
+
+-- windows
+pub window::WindowExprPhysicalExpr::collect_live_columns-returns-in_err-collect_all-clause-part : goal.window::WindowExprPhysicalExpr::collect_live_columns-returns-in_err-collect_all-clause-part
+window::WindowExprPhysicalExpr::collect_live_columns-returns-in_err-collect_all-clause-part t c =
+    OnErr-of _ (AddsFront c.args.lv.now.keys (live_names (window_plan c.args.self.now).tree) c.collect_all.new.lv.keys) (front_first c.args.lv.now.keys c.collect_all.new.lv.keys (all_live_names (plan_trees c.args.self.now.group_by)) (order_live_names (plan_order c.args.self.now.order_by)) (live_names (under c.args.self.now.out_name c.args.self.now.phys_function.tree)) (search rules))
+
+pub window::WindowExprPhysicalExpr::collect_live_columns-returns-in_err-collect_order-clause-part : goal.window::WindowExprPhysicalExpr::collect_live_columns-returns-in_err-collect_order-clause-part
+window::WindowExprPhysicalExpr::collect_live_columns-returns-in_err-collect_order-clause-part t c =
+    OnErr-of _ (AddsFront c.args.lv.now.keys (live_names (window_plan c.args.self.now).tree) c.collect_order.new.lv.keys) (front_second c.args.lv.now.keys c.collect_all.new.lv.keys c.collect_order.new.lv.keys (all_live_names (plan_trees c.args.self.now.group_by)) (order_live_names (plan_order c.args.self.now.order_by)) (live_names (under c.args.self.now.out_name c.args.self.now.phys_function.tree)) (search rules) (search rules))
+
+pub window::WindowExprPhysicalExpr::collect_live_columns-returns-in_err-collect_live_columns-clause-part : goal.window::WindowExprPhysicalExpr::collect_live_columns-returns-in_err-collect_live_columns-clause-part
+window::WindowExprPhysicalExpr::collect_live_columns-returns-in_err-collect_live_columns-clause-part t c =
+    OnErr-of _ (AddsFront c.args.lv.now.keys (live_names (window_plan c.args.self.now).tree) c.collect_live_columns.new.lv.keys) (window_front c.args.self.now c.args.lv.now.keys c.collect_all.new.lv.keys c.collect_order.new.lv.keys (search rules) (search rules) c.collect_live_columns.new.lv.keys (search rules))
+
+pub window::WindowExprPhysicalExpr::collect_live_columns-returns-clause-live : goal.window::WindowExprPhysicalExpr::collect_live_columns-returns-clause-live
+window::WindowExprPhysicalExpr::collect_live_columns-returns-clause-live t c =
+    let keys : c.collect_all.new.lv.keys ≡ added c.args.lv.now.keys (all_live_names (plan_trees c.args.self.now.group_by)) = search rules in
+    let order : c.collect_order.new.lv.keys ≡ added c.collect_all.new.lv.keys (order_live_names (plan_order c.args.self.now.order_by)) = search rules in
+    let done : c.collect_live_columns.new.lv.keys ≡ added c.collect_order.new.lv.keys (live_names c.args.self.now.phys_function.tree) = search rules in
+    on_ok_weaker _ (λ h. window_live c.args.self.now c.args.lv.now.keys c.collect_all.new.lv.keys c.collect_order.new.lv.keys keys order c.collect_live_columns.new.lv.keys c.add_out_name.new.lv.keys done h) (search rules)
+
+pub window::WindowExprPhysicalExpr::collect_live_columns-returns-clause-part : goal.window::WindowExprPhysicalExpr::collect_live_columns-returns-clause-part
+window::WindowExprPhysicalExpr::collect_live_columns-returns-clause-part t c =
+    let keys : c.collect_all.new.lv.keys ≡ added c.args.lv.now.keys (all_live_names (plan_trees c.args.self.now.group_by)) = search rules in
+    let order : c.collect_order.new.lv.keys ≡ added c.collect_all.new.lv.keys (order_live_names (plan_order c.args.self.now.order_by)) = search rules in
+    let done : c.collect_live_columns.new.lv.keys ≡ added c.collect_order.new.lv.keys (live_names c.args.self.now.phys_function.tree) = search rules in
+    on_err_weaker _ (λ h. window_unnamed c.args.self.now c.args.lv.now.keys c.collect_all.new.lv.keys c.collect_order.new.lv.keys keys order c.collect_live_columns.new.lv.keys c.add_out_name.new.lv.keys done h) (search rules)
 
 -- a list of nodes
 pub phys_expr::collect_all-loop-node-init : goal.phys_expr::collect_all-loop-node-init

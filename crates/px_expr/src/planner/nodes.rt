@@ -1,10 +1,10 @@
 //! The nodes over nodes that were planned.
 ghost use Rattle.std.specs.Prelude.{◌≡◌, ◌++◌, [], map, Ok};
 ghost use Rattle.px_column.specs.Prelude.{AnswersBy, kind_of};
-ghost use Rattle.px_tree.specs.Tree.{column, literal, alias, binary, ternary, cast, filter, slice, gather, sort, sort_by, agg};
+ghost use Rattle.px_tree.specs.Tree.{column, literal, alias, binary, ternary, cast, filter, slice, gather, sort, sort_by, agg, window};
 ghost use Rattle.px_tree.specs.View.{tree, literal_of};
-ghost use Rattle.px_expr.specs.NodeView.{plan_of};
-ghost use Rattle.px_answers.specs.Parts.{plan_trees, plan_columns};
+ghost use Rattle.px_expr.specs.NodeView.{order_of, plan_of};
+ghost use Rattle.px_answers.specs.Parts.{order_columns, plan_order, plan_trees, plan_columns, under};
 ghost use Rattle.px_expr.specs.Plan.{planned_over};
 
 use crate::aggregation::{AggregationExpr, AggregationType};
@@ -21,11 +21,12 @@ use crate::slice::SliceExpr;
 use crate::sort::SortExpr;
 use crate::sort_by::SortByExpr;
 use crate::ternary::TernaryExpr;
+use crate::window::WindowExpr;
 use px_column::{
     CastOptions, DataType, GroupByMethod, Name, Operator, Px, SortMultipleOptions, SortOptions,
 };
 use px_frame::SchemaRef;
-use px_plan::{Expr, LiteralValue};
+use px_plan::{Expr, LiteralValue, WindowMapping};
 use std::alloc::Global;
 
 pub(crate) fn plan_column(alloc: Global, name: &Name, schema: &SchemaRef) -> Px<PhysExpr>
@@ -197,4 +198,39 @@ pub(crate) fn plan_aggregation(
 {
     let input = Box::new(alloc, input)?;
     Ok(PhysExpr::Aggregation(AggregationExpr::new(input, AggregationType { groupby }, None)))
+}
+
+/// The function of a window that was planned: the name of its result, where that is another than the
+/// function's, and the function's expression and node.
+#[derive(Drop)]
+pub(crate) struct PlannedFunction {
+    pub out_name: Option<Name>,
+    pub function: Expr,
+    pub node: PhysExpr,
+}
+
+/// A function's values on the parts of the rows by nodes, each in the order of another, with the
+/// expression of that window.
+pub(crate) fn plan_window(
+    alloc: Global,
+    planned: PlannedFunction,
+    group_by: Vec<PhysExpr>,
+    order_by: Option<(Box<PhysExpr>, SortOptions)>,
+    mapping: WindowMapping,
+    expr: &Expr,
+) -> Px<PhysExpr>
+    requires tree { tree expr.now ≡ window (under planned.out_name (plan_of planned.node).tree) (plan_trees (map plan_of group_by.items)) (plan_order (order_of order_by)) mapping }
+    requires function { tree planned.function ≡ (plan_of planned.node).tree }
+    ensures { AnswersBy plan_of result (Ok (record { tree = tree expr.now; columns = (plan_of planned.node).columns ++ (plan_columns (map plan_of group_by.items) ++ order_columns (order_of order_by)) })) }
+{
+    let PlannedFunction {
+        out_name,
+        function,
+        node,
+    } = planned;
+    let expr = expr.try_clone(alloc)?;
+    let node = Box::new(alloc, node)?;
+    Ok(PhysExpr::Window(WindowExpr::new(
+        group_by, order_by, out_name, function, node, mapping, expr,
+    )))
 }

@@ -1,10 +1,11 @@
-use Rattle.std.proofs.Common.{◌≡◌, ◌++◌, map, ap, ◌∙◌}
-use Rattle.px_arena.proofs.Shapes.{tree-BinaryExpr, tree-Ternary, tree-Filter, tree-Slice, tree-Gather, tree-SortBy}
-use Rattle.px_tree.specs.Nodes.{leaf_names, all_leaf_names}
-use Rattle.px_tree.specs.Tree.{by_name, sort_by}
-use Rattle.px_tree.specs.View.{tree, trees}
-use Rattle.px_expr.specs.NodeView.{plan_of}
-use Rattle.px_expr.proofs.PlannedOver.{tree-Function, two_over, three_over, list_over, one_and_list_over, call_over, sort_by_over}
+use Rattle.std.proofs.Common.{◌≡◌, ◌++◌, map, ap, rules, sym, ◌∙◌}
+use Rattle.px_arena.proofs.Shapes.{tree-BinaryExpr, tree-Ternary, tree-Filter, tree-Slice, tree-Gather, tree-SortBy, tree-Window}
+use Rattle.px_tree.specs.Nodes.{leaf_names, all_leaf_names, order_leaf_names}
+use Rattle.px_tree.specs.Tree.{by_name, sort_by, window}
+use Rattle.px_tree.specs.View.{order_tree, tree, trees}
+use Rattle.px_expr.specs.NodeView.{order_of, plan_of}
+use Rattle.px_expr.specs.Plan.{function_of}
+use Rattle.px_expr.proofs.PlannedOver.{tree-Function, two_over, three_over, list_over, one_and_list_over, call_over, sort_by_over, window_over, window_tree_over}
 use Rattle.px_expr.proofs.planner.+plan_expr.Goals as goal
 
 pub plan_expr-plan_apply-requires-clause-tree : goal.plan_expr-plan_apply-requires-clause-tree
@@ -58,3 +59,14 @@ plan_expr-returns-in_ok-by-in-SortBy t c =
     let told : leaf_names (tree c.args.expr.now) ≡ leaf_names (tree c.in-SortBy.input.value) ++ all_leaf_names (trees c.in-SortBy.by) = ap leaf_names (ap tree c.in-SortBy.is ∙ tree-SortBy c.in-SortBy.input c.in-SortBy.by c.in-SortBy.sort_options) in
     let named : leaf_names (tree c.args.expr.now) ≡ leaf_names (tree c.deref-in-SortBy.result.now) ++ all_leaf_names (trees c.in-SortBy.by) = cc (told, c.deref-in-SortBy.ensures) in
     one_and_list_over plan_of c.plan_sort_by.result c.args.schema.now.value (tree c.args.expr.now) (tree c.deref-in-SortBy.result.now) (trees c.in-SortBy.by) (plan_of c.in_ok-input-in-SortBy.input) (map plan_of c.in_ok-by-in-SortBy.by.items) named c.in_ok-input-in-SortBy.ensures c.in_ok-by-in-SortBy.ensures c.plan_sort_by.ensures
+
+pub plan_expr-plan_window-requires-clause-tree : goal.plan_expr-plan_window-requires-clause-tree
+plan_expr-plan_window-requires-clause-tree t c =
+    let told = ap tree c.in-Window.is ∙ tree-Window c.in-Window.function c.in-Window.partition_by c.in-Window.order_by c.in-Window.options in
+    let shape = told ∙ ap (window (tree c.in-Window.function.value) (trees c.in-Window.partition_by) (order_tree c.in-Window.order_by)) (sym c.mapping_of.ensures) in
+    window_tree_over c.args.schema.now.value (tree c.args.expr.now) (tree c.in-Window.function.value) (trees c.in-Window.partition_by) (order_tree c.in-Window.order_by) c.mapping_of.result (function_of c.in_ok-planned-in-Window.planned) (map plan_of c.in_ok-keys-in-Window.keys.items) (order_of c.in_ok-order-in-Window.order) shape (search rules) c.in_ok-keys-in-Window.ensures c.in_ok-order-in-Window.ensures
+
+pub plan_expr-returns-in_ok-order-in-Window : goal.plan_expr-returns-in_ok-order-in-Window
+plan_expr-returns-in_ok-order-in-Window t c =
+    let told : leaf_names (tree c.args.expr.now) ≡ leaf_names (tree c.in-Window.function.value) ++ (all_leaf_names (trees c.in-Window.partition_by) ++ order_leaf_names (order_tree c.in-Window.order_by)) = ap leaf_names (ap tree c.in-Window.is ∙ tree-Window c.in-Window.function c.in-Window.partition_by c.in-Window.order_by c.in-Window.options) in
+    window_over plan_of c.plan_window.result c.args.schema.now.value (tree c.args.expr.now) (tree c.in-Window.function.value) (trees c.in-Window.partition_by) (order_tree c.in-Window.order_by) (function_of c.in_ok-planned-in-Window.planned) (map plan_of c.in_ok-keys-in-Window.keys.items) (order_of c.in_ok-order-in-Window.order) told (search rules) c.in_ok-keys-in-Window.ensures c.in_ok-order-in-Window.ensures c.plan_window.ensures

@@ -5,12 +5,12 @@ use Rattle.std.proofs.lemmas.Result.{err_from_is_err_and}
 use Rattle.px_column.specs.Prelude.{Answers, Series}
 use Rattle.px_value.specs.declared.error.PxError.{PxError}
 use Rattle.px_frame.specs.Aggregate.{key_column}
-use Rattle.px_frame.specs.External.{alone}
+use Rattle.px_window.specs.State.{beside}
 use Rattle.px_frame.specs.Frame.{height_of}
 use Rattle.px_frame.specs.Groups.{Groups, group_of, groups_by}
 use Rattle.px_frame.specs.Parts.{parts_of}
 use Rattle.px_tree.specs.Size.{size_on}
-use Rattle.px_steps.specs.Finds.{Lacks, node_tree, part_faults, part_frames}
+use Rattle.px_steps.specs.Finds.{Lacks, agg_faults, node_tree, part_frames}
 use Rattle.px_steps.specs.Plain.{columns_on, greatest, group_costs}
 use Rattle.px_steps.proofs.Columns.{keys_high}
 use Rattle.px_steps.proofs.GroupStep.{columns_found, frame_made, parts_found}
@@ -26,24 +26,24 @@ key_rows-requires-clause-height g c =
 pub returns-in_err-push_aggregations-clause-answer : goal.returns-in_err-push_aggregations-clause-answer
 returns-in_err-push_aggregations-clause-answer g c =
     let p = err_from_is_err_and c.from_residual-in_err-push_aggregations.result c.from_residual-in_err-push_aggregations.ensures.1 in
-    let F = alone c.args.frame.now in
+    let F = beside c.args.frame.now c.args.state.now in
     let ts = map node_tree c.args.aggs.now in
     let e = c.in_err-push_aggregations.field-0.0 in
     let groups : c.in_ok-groups.groups ≡ groups_by c.args.by.now (height_of c.args.frame.now) = cc (c.in_ok-groups.ensures.groups) in
     rw (p.1, p.2)
-    (subst (λ (ps : List (List ℕ)). Lacks e (flat_map (part_faults F ps) ts) (greatest (map (λ t. size_on t (part_frames F ps)) ts))) (parts_found c.args.frame.now c.args.by.now c.in_ok-groups.groups groups) c.in_err-push_aggregations.ensures.answer)
+    (subst (λ (ps : List (List ℕ)). Lacks e (flat_map (agg_faults F ps) ts) (greatest (map (λ t. size_on t (part_frames F ps)) ts))) (parts_found c.args.frame.now c.args.by.now c.in_ok-groups.groups groups) c.in_err-push_aggregations.ensures.answer)
 
 pub returns-clause-answer : goal.returns-clause-answer
 returns-clause-answer g c =
     let cs = c.args.frame.now in
-    let F = alone cs in
+    let F = beside cs c.args.state.now in
     let by = c.args.by.now in
     let ts = map node_tree c.args.aggs.now in
     let new = c.push_aggregations.new.columns.items in
     let groups : c.in_ok-groups.groups ≡ groups_by by (height_of cs) = cc (c.in_ok-groups.ensures.groups) in
     let keys : c.in_ok-columns.columns.items ≡ map (key_column c.in_ok-groups.groups.groups) by = cc (c.in_ok-columns.ensures) in
     let made : columns_on F ts by ≡ Some new = columns_found F ts by c.in_ok-groups.groups _ new groups keys c.in_ok-push_aggregations.ensures.answer.1 in
-    let sound = sym (ap (λ (ps : List (List ℕ)). flat_map (part_faults F ps) ts) (parts_found cs by c.in_ok-groups.groups groups)) ∙ c.in_ok-push_aggregations.ensures.answer.0 in
+    let sound = sym (ap (λ (ps : List (List ℕ)). flat_map (agg_faults F ps) ts) (parts_found cs by c.in_ok-groups.groups groups)) ∙ c.in_ok-push_aggregations.ensures.answer.0 in
     finds_same c.new.result new (columns_on F ts by) _ _ (subst (λ (r : Result (List Series) PxError). Answers c.new.result r) (frame_made F ts by new made c.requires.names) c.new.ensures.answer) made sound
 
 pub returns-clause-most : goal.returns-clause-most

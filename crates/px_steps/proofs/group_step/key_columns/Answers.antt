@@ -1,46 +1,58 @@
-use Rattle.std.proofs.Common.{◌∙◌, ℕ, ◌∷◌, [], map}
+use Rattle.std.proofs.Common.{◌∙◌, ℕ, ◌∷◌, [], arith, map}
 use Rattle.std.proofs.lemmas.Result.{err_from_is_err_and}
 use Rattle.px_answers.specs.Counted.{RisesAtMost, costs_on, flat_kernels}
 use Rattle.px_expr.specs.NodeView.{plan_of}
-use Rattle.px_frame.specs.External.{alone}
+use Rattle.px_window.specs.State.{beside}
+use Rattle.px_tree.specs.Cost.{windows_in}
 use Rattle.px_tree.specs.Size.{size_on}
 use Rattle.px_tree.specs.declared.context.Context.TheVariants.{Default}
 use Rattle.px_steps.specs.Finds.{key_faults, node_tree}
 use Rattle.px_steps.specs.Plain.{key_on}
 use Rattle.px_answers.proofs.Costs.{cost_end, cost_next}
-use Rattle.px_steps.proofs.Members.{in_here, lacks_in, least_next, sound_next, values_next}
+use Rattle.px_steps.proofs.Members.{exactly_next, in_here, lacks_in, least_next, sound_next, values_next, within_here}
 use Rattle.px_steps.proofs.Nodes.{in_accepted}
 use Rattle.px_steps.proofs.group_step.key_columns.Goals as goal
 
 pub spread_value-requires : goal.spread_value-requires
 spread_value-requires g c =
-    in_accepted c.args.frame.now Default (map plan_of c.args.keys.now) (plan_of c.key-item.result) (in_here plan_of c.args.keys.now c.loop-key.key-index c.key-item.result c.loop-key-test.true c.key-item.is) c.requires
+    rw c.loop-key.invariant.state
+    (in_accepted (beside c.args.frame.now c.args.state.now) Default (map plan_of c.args.keys.now) (plan_of c.key-item.result) (in_here plan_of c.args.keys.now c.loop-key.key-index c.key-item.result c.loop-key-test.true c.key-item.is) c.requires)
 
 pub returns-in_err-spread_value-clause-answer : goal.returns-in_err-spread_value-clause-answer
 returns-in_err-spread_value-clause-answer g c =
     let p = err_from_is_err_and c.from_residual-in_err-spread_value.result c.from_residual-in_err-spread_value.ensures.1 in
-    let F = alone c.args.frame.now in
+    let F = beside c.args.frame.now c.args.state.now in
     rw (p.1, p.2)
     (lacks_in c.in_err-spread_value.field-0.0 (key_faults F) (λ t. size_on t (F ∷ [])) (map node_tree c.args.keys.now) (node_tree c.key-item.result)
-    (in_here node_tree c.args.keys.now c.loop-key.key-index c.key-item.result c.loop-key-test.true c.key-item.is) c.in_err-spread_value.ensures.answer)
+    (in_here node_tree c.args.keys.now c.loop-key.key-index c.key-item.result c.loop-key-test.true c.key-item.is) (rw c.loop-key.invariant.state at c.in_err-spread_value.ensures.answer))
+
+pub returns-in_err-spread_value-clause-within : goal.returns-in_err-spread_value-clause-within
+returns-in_err-spread_value-clause-within g c =
+    within_here node_tree c.args.keys.now c.loop-key.key-index c.key-item.result c.loop-key-test.true c.key-item.is windows_in _ c.loop-key.groupings c.spread_value.new.groupings c.loop-key.invariant.grouped c.in_err-spread_value.ensures.within
+
+pub returns-in_err-push-clause-within : goal.returns-in_err-push-clause-within
+returns-in_err-push-clause-within g c =
+    within_here node_tree c.args.keys.now c.loop-key.key-index c.key-item.result c.loop-key-test.true c.key-item.is windows_in _ c.loop-key.groupings c.spread_value.new.groupings c.loop-key.invariant.grouped c.in_ok-spread_value.ensures.within
 
 pub loop-key-preserved : goal.loop-key-preserved
 loop-key-preserved g c =
     let inv = c.loop-key.invariant in
-    let F = alone c.args.frame.now in
+    let F = beside c.args.frame.now c.args.state.now in
     let keys = c.args.keys.now in
     let i = c.loop-key.key-index in
     let k = c.key-item.result in
-    let found = c.in_ok-spread_value.ensures.answer in
+    let found = rw inv.state at c.in_ok-spread_value.ensures.answer in
     record {
       values = values_next node_tree keys i k c.loop-key-test.true c.key-item.is (key_on F) c.loop-key.columns.items c.push.new.self.items c.in_ok-spread_value.field-0 _ inv.values found.1 c.in_ok-push.ensures.items;
       sound = sound_next node_tree keys i k c.loop-key-test.true c.key-item.is (key_faults F) _ inv.sound found.0;
       state = c.in_ok-spread_value.ensures.state ∙ inv.state;
-      grouped = c.in_ok-spread_value.ensures.grouped ∙ inv.grouped;
-      most = cost_next node_tree keys i k c.loop-key-test.true c.key-item.is F (λ (new : ℕ). RisesAtMost (costs_on (map node_tree keys) F) c.args.kernels.now new) c.loop-key.kernels c.spread_value.new.kernels inv.most c.in_ok-spread_value.ensures.most;
+      grouped = exactly_next node_tree keys i k c.loop-key-test.true c.key-item.is windows_in _ c.loop-key.groupings c.spread_value.new.groupings inv.grouped c.in_ok-spread_value.ensures.grouped;
+      risen = omega (arith, inv.risen, c.in_ok-spread_value.ensures.risen);
+      most = cost_next node_tree keys i k c.loop-key-test.true c.key-item.is F (λ (new : ℕ). RisesAtMost (costs_on (map node_tree keys) F) c.args.kernels.now new) c.loop-key.kernels c.spread_value.new.kernels inv.most (rw inv.state at c.in_ok-spread_value.ensures.most);
       ticks = least_next node_tree keys i k c.loop-key-test.true c.key-item.is flat_kernels _ c.loop-key.kernels _ inv.ticks c.in_ok-spread_value.ensures.ticks;
     }
 
 pub returns-clause-most : goal.returns-clause-most
 returns-clause-most g c =
-    cost_end node_tree c.args.keys.now c.loop-key.key-index c.loop-key-test.false (alone c.args.frame.now) (λ (new : ℕ). RisesAtMost (costs_on (map node_tree c.args.keys.now) (alone c.args.frame.now)) c.args.kernels.now new) c.loop-key.kernels c.loop-key.invariant.most
+    let F = beside c.args.frame.now c.args.state.now in
+    cost_end node_tree c.args.keys.now c.loop-key.key-index c.loop-key-test.false F (λ (new : ℕ). RisesAtMost (costs_on (map node_tree c.args.keys.now) F) c.args.kernels.now new) c.loop-key.kernels c.loop-key.invariant.most

@@ -1,8 +1,10 @@
-use Rattle.std.proofs.Common.{◌∙◌, Some, ap, map, refl, sym}
+use Rattle.std.proofs.Common.{[], ◌∙◌, Some, ap, map, sym}
 use Rattle.std.proofs.lemmas.Result.{err_from_is_err_and}
 use Rattle.px_frame.specs.Schema.{column_field}
 use Rattle.px_tree.specs.Tree.{column}
+use Rattle.px_steps.specs.Finds.{typed_group_refusals}
 use Rattle.px_steps.proofs.GroupStep.{aggs_first, keys_first}
+use Rattle.px_steps.proofs.Named.{IsFirst_append}
 use Rattle.px_vectors.specs.PlainStep.{tree_of}
 use Rattle.px_vectors.proofs.PlainAnswer.{no_key, some_key, step_answer}
 use Rattle.px_vectors.proofs.plain_step.plain_group_step.Goals as goal
@@ -13,16 +15,22 @@ returns-then-is_empty c = no_key c.args.keys.now (map tree_of c.args.aggs.now) c
 pub returns-in_err-by : goal.returns-in_err-by
 returns-in_err-by c =
     let p = err_from_is_err_and c.from_residual.result c.from_residual.ensures.1 in
+    let e = c.in_err-by.field-0.0 in
+    let over = map column_field c.args.frame.now in
+    let keys = map column c.args.keys.now in
+    let aggs = map tree_of c.args.aggs.now in
     rw (p.1, p.2)
-    (keys_first c.in_err-by.field-0.0 (map column c.args.keys.now) (map tree_of c.args.aggs.now) c.args.frame.now (map column_field c.args.frame.now) refl
-    (some_key c.args.keys.now (sym c.is_empty.ensures ∙ c.if-is_empty.false)) c.in_err-by.ensures)
+    (IsFirst_append e (typed_group_refusals over keys aggs) [] (keys_first e keys aggs over (some_key c.args.keys.now (sym c.is_empty.ensures ∙ c.if-is_empty.false)) c.in_err-by.ensures))
 
 pub returns-in_err-grouped_columns : goal.returns-in_err-grouped_columns
 returns-in_err-grouped_columns c =
     let p = err_from_is_err_and c.from_residual-in_err-grouped_columns.result c.from_residual-in_err-grouped_columns.ensures.1 in
+    let e = c.in_err-grouped_columns.field-0.0 in
+    let over = map column_field c.args.frame.now in
+    let keys = map column c.args.keys.now in
+    let aggs = map tree_of c.args.aggs.now in
     rw (p.1, p.2)
-    (aggs_first c.in_err-grouped_columns.field-0.0 (map column c.args.keys.now) (map tree_of c.args.aggs.now) c.args.frame.now (map column_field c.args.frame.now) refl
-    (some_key c.args.keys.now (sym c.is_empty.ensures ∙ c.if-is_empty.false)) c.in_ok-by.ensures.0 c.in_err-grouped_columns.ensures)
+    (IsFirst_append e (typed_group_refusals over keys aggs) [] (aggs_first e keys aggs over (some_key c.args.keys.now (sym c.is_empty.ensures ∙ c.if-is_empty.false)) c.in_ok-by.ensures.0 c.in_err-grouped_columns.ensures))
 
 pub returns : goal.returns
 returns c =

@@ -1,0 +1,41 @@
+"""Documents of Int64 columns, and the wall seconds of whole runs over them."""
+
+import json
+import subprocess
+import tempfile
+import time
+
+
+def write(file, columns, steps):
+    """Writes the document of these columns and steps."""
+    listed = [{"name": it, "type": "Int64", "values": columns[it]} for it in columns]
+    json.dump({"columns": listed, "steps": steps}, file, separators=(",", ":"))
+    file.flush()
+
+
+def seconds(command, path):
+    """The least of three runs' seconds, with the file as standard input."""
+    best = None
+    for _ in range(3):
+        with open(path) as source:
+            start = time.perf_counter()
+            subprocess.run(command, stdin=source, stdout=subprocess.DEVNULL, check=True)
+            taken = time.perf_counter() - start
+        best = taken if best is None else min(best, taken)
+    return best
+
+
+def measure(px, made):
+    """The seconds of px on the document of some columns and steps."""
+    with tempfile.NamedTemporaryFile("w") as file:
+        write(file, *made)
+        return seconds([px, "run"], file.name)
+
+
+def python_with_pandas():
+    """The first Python that has pandas, if any."""
+    for python in ("python3", "/usr/bin/python3"):
+        has = subprocess.run([python, "-c", "import pandas"], stderr=subprocess.DEVNULL)
+        if has.returncode == 0:
+            return python
+    return None

@@ -1,0 +1,3 @@
+pub mod Grouped
+pub mod Placing
+pub mod Inputs
