@@ -46,6 +46,9 @@ def compare_table():
 
 
 def compare_generated(seed="1", count="5000", px_batch=BATCH / "out" / "px_batch"):
+    if not Path(px_batch).is_file():
+        print(f"generated: {px_batch} was not built")
+        return False
     documents = run_reference("random_documents.py", seed, count)
     told = split_answers(run([str(px_batch)], documents))
     return compare("generated", split_lines(documents), told)
