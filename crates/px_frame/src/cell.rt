@@ -137,11 +137,11 @@ impl Cell {
 pub fn spread(alloc: Global, cell: Cell, height: u32) -> Px<Column>
     ensures { Answers result (spread_column height (named_cell cell)) }
 {
-    match cell {
+    match &cell {
         Cell::Unit(unit) => unit.repeat(alloc, height),
         Cell::Rows(column) => {
             if column.len() == height {
-                Ok(column)
+                Ok(cell.into_column())
             } else {
                 Err(PxError::ShapeMismatch)
             }
