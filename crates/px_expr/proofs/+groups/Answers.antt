@@ -269,7 +269,8 @@ gather::GatherExprPhysicalExpr::evaluate_on_groups-returns-clause-context t g c 
     let y : IsContextOf c.args.self.now.idx (beside c.args.df.now c.args.state.now) c.args.groups.now c.in_ok-idx.idx = search rules in
     let a : scalar_refusal c.args.self.now.phys_expr.tree ≡ [] = search rules in
     let one = ap (λ (p : PlannedGather). p.returns_scalar) c.self.view_is in
-    let literals = c.has_literals_alone-is_literal.ensures ∙ ap (λ (p : PlannedGather). is_literal_tree p.idx.tree) c.self.view_is in
+    let idx : plan_of c.deref-4.result.now ≡ c.args.self.now.idx = search rules in
+    let literals = c.has_literals_alone-is_literal.ensures ∙ ap (λ (p : Planned). is_literal_tree p.tree) idx in
     gather_context c.args.self.now (beside c.args.df.now c.args.state.now) c.args.groups.now c.in_ok-input.input c.in_ok-idx.idx x y a c.gather_groups.result
     (subst (λ (b : Bool). IfOk c.gather_groups.result (IsGathered b (is_literal_tree c.args.self.now.idx.tree) c.in_ok-input.input c.in_ok-idx.idx)) one
     (subst (λ (b : Bool). IfOk c.gather_groups.result (IsGathered c.self.inside.returns_scalar b c.in_ok-input.input c.in_ok-idx.idx)) literals c.gather_groups.ensures.made))
@@ -285,7 +286,8 @@ gather::GatherExprPhysicalExpr::evaluate_on_groups-returns-clause-causes t g c =
     let y : IsContextOf c.args.self.now.idx (beside c.args.df.now c.args.state.now) c.args.groups.now c.in_ok-idx.idx = search rules in
     let a : scalar_refusal c.args.self.now.phys_expr.tree ≡ [] = search rules in
     let one = ap (λ (p : PlannedGather). p.returns_scalar) c.self.view_is in
-    let literals = c.has_literals_alone-is_literal.ensures ∙ ap (λ (p : PlannedGather). is_literal_tree p.idx.tree) c.self.view_is in
+    let idx : plan_of c.deref-4.result.now ≡ c.args.self.now.idx = search rules in
+    let literals = c.has_literals_alone-is_literal.ensures ∙ ap (λ (p : Planned). is_literal_tree p.tree) idx in
     gather_refused c.args.self.now (beside c.args.df.now c.args.state.now) c.args.groups.now c.in_ok-input.input c.in_ok-idx.idx x y a c.gather_groups.result
     (subst (λ (b : Bool). IfErr c.gather_groups.result (GatherRefusal b (is_literal_tree c.args.self.now.idx.tree) c.in_ok-input.input c.in_ok-idx.idx)) one
     (subst (λ (b : Bool). IfErr c.gather_groups.result (GatherRefusal c.self.inside.returns_scalar b c.in_ok-input.input c.in_ok-idx.idx)) literals c.gather_groups.ensures.refused))
