@@ -17,4 +17,3 @@ pub mod Exploding
 pub mod Sorting
 pub mod Ranking
 pub mod Casting
-pub mod Summing

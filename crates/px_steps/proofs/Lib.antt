@@ -15,3 +15,4 @@ pub mod Command
 pub mod Aggregated
 pub mod Nodes
 pub mod Kernels
+pub mod Fields

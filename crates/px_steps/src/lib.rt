@@ -8,6 +8,7 @@ mod planning;
 mod reply;
 pub mod run;
 mod runner;
+mod scope;
 mod select_step;
 mod status;
 

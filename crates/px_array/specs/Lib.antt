@@ -1,5 +1,0 @@
-pub mod Words
-pub mod Lanes
-pub mod Places
-pub mod Inside
-pub mod Integers

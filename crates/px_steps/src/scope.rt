@@ -1,0 +1,48 @@
+//! The names and types that a step is planned over.
+ghost use Rattle.std.specs.Prelude.{◌≡◌, Ok, OnOk, IfErr, fold};
+ghost use Rattle.px_column.specs.Prelude.{Answers, AnswersBy};
+ghost use Rattle.px_value.specs.declared.error.PxError.TheVariants.{OutOfMemory};
+ghost use Rattle.px_frame.specs.External.{scope_of, with_field};
+ghost use Rattle.px_frame.specs.Schema.{column_field};
+ghost use Rattle.px_frame.specs.SchemaView.{field_kind};
+ghost use Rattle.px_window.specs.State.{beside};
+
+use px_column::{Column, Px};
+use px_frame::{DataFrame, Field, Schema, SchemaRef};
+use px_window::ExecutionState;
+use std::alloc::Global;
+use std::rc::Rc;
+
+/// A column's name and type.
+fn field_of(alloc: Global, column: &Column) -> Px<Field>
+    ensures { AnswersBy field_kind result (Ok (column_field column.now)) }
+{
+    Ok(Field {
+        name: column.name().try_clone(alloc)?,
+        dtype: column.dtype().try_clone(alloc)?,
+    })
+}
+
+/// Adds the names and types of the columns whose names are new.
+fn add_fields(alloc: Global, schema: &mut Schema, columns: &[Column]) -> Px<()>
+    ensures added { OnOk result (schema.new ≡ fold with_field schema.old columns.now) }
+    ensures memory { IfErr result (λ e. e ≡ OutOfMemory) }
+{
+    for column in columns {
+        if schema.get_full(column.name()).is_none() {
+            schema.push(field_of(alloc, column)?)?;
+        }
+    }
+    Ok(())
+}
+
+/// The names and types of a frame's columns, and then of those beside it that are not named yet.
+pub(crate) fn step_schema(alloc: Global, frame: &DataFrame, state: &ExecutionState) -> Px<SchemaRef>
+    ensures { AnswersBy (λ s. s.value) result (Ok (scope_of (beside frame.now state.now))) }
+{
+    let mut schema = frame.schema(alloc)?;
+    for external in &state.ext_contexts {
+        add_fields(alloc, &mut schema, external.get_columns())?;
+    }
+    Ok(Rc::new(alloc, schema)?)
+}
