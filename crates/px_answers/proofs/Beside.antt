@@ -38,14 +38,26 @@ module _ (c : PlannedColumn) (columns external : List Series) where
   pub own_looked : (s : Series) → look c.name columns ≡ Some s → look_in c.name whole ≡ Some s
   own_looked s h = ap (λ o. option_or o (look c.name external)) h
 
-  -- a copy of it is the node's value
-  pub own_value : (p : Planned) (r : Option (Bor Series)) (b : Bor Series) (copy : Result Series PxError) → p ≡ column_plan c → option_map (λ x. x.now) r ≡ found_by c (alone columns) → IfSome r (λ x. look c.name columns ≡ Some x.now) → r ≡ Some b → Answers copy (Ok b.now)
-      → IfOk copy (λ s. IsValue p whole s)
-  own_value p r b (Err e) s f l is a = tt
-  own_value p None b (Ok t) s f l is a = absurd (cc is)
-  own_value p (Some x) b (Ok t) s f l is a =
+  -- it is what the node has
+  own_column : (s : Series) → found_by c (alone columns) ≡ Some s → column_of c whole ≡ Ok s
+  own_column s h =
+      ap (λ b. cond b (Err ShapeMismatch) (ok_or (found_by c whole) (ColumnNotFound c.name))) (own_fits s h)
+      ∙ ap (λ o. ok_or o (ColumnNotFound c.name)) (own_found s h)
+
+  -- and so is a copy of it
+  pub own_copied : (r : Option (Bor Series)) (b : Bor Series) (copy : Result Series PxError) → option_map (λ x. x.now) r ≡ found_by c (alone columns) → r ≡ Some b → Answers copy (Ok b.now) → Answers copy (column_of c whole)
+  own_copied None b copy f is a = absurd (cc is)
+  own_copied (Some x) b copy f is a =
+      let same : x.now ≡ b.now = cc in
+      subst (Answers copy) (sym (own_column b.now (sym f ∙ ap Some same))) a
+
+  -- which has the name
+  pub own_named : (r : Option (Bor Series)) (b : Bor Series) (copy : Result Series PxError) → IfSome r (λ x. look c.name columns ≡ Some x.now) → r ≡ Some b → Answers copy (Ok b.now) → IfOk copy (λ s. look_in c.name whole ≡ Some s)
+  own_named r b (Err e) l is a = tt
+  own_named None b (Ok t) l is a = absurd (cc is)
+  own_named (Some x) b (Ok t) l is a =
       let same : x.now ≡ t = cc in
-      rw (s, ← same) (found_is_value c whole x.now (own_fits x.now (sym f)) (own_found x.now (sym f)) (own_looked x.now l))
+      own_looked t (l ∙ ap Some same)
 
   -- a reserved name that the schema lacks is not sought beside the frame
   pub beside_added : found_by c (alone columns) ≡ None → is_added c ≡ true → column_of c whole ≡ Err (ColumnNotFound c.name)
@@ -99,12 +111,16 @@ module _ (c : PlannedColumn) (columns external : List Series) where
       by true k g = absurd (cc (k, g))
       by false k g = g
 
-  -- and the node's value
-  pub beside_value : (p : Planned) (copy : Result Series PxError) → p ≡ column_plan c → found_by c (alone columns) ≡ None → Answers copy (column_of c whole) → IfOk copy (λ s. IsValue p whole s)
-  beside_value p (Err e) i h a = tt
-  beside_value p (Ok s) i h a =
+  pub beside_named : (copy : Result Series PxError) → found_by c (alone columns) ≡ None → Answers copy (column_of c whole) → IfOk copy (λ s. look_in c.name whole ≡ Some s)
+  beside_named (Err e) h a = tt
+  beside_named (Ok s) h a = beside_looked s h (column_parts s a).1
+
+  -- a copy of the column that a node has is its value
+  pub copied_value : (p : Planned) (copy : Result Series PxError) → p ≡ column_plan c → Answers copy (column_of c whole) → IfOk copy (λ s. look_in c.name whole ≡ Some s) → IfOk copy (λ s. IsValue p whole s)
+  copied_value p (Err e) i a l = tt
+  copied_value p (Ok s) i a l =
       let parts = column_parts s a in
-      rw i (found_is_value c whole s parts.0 parts.1 (beside_looked s h parts.1))
+      rw i (found_is_value c whole s parts.0 parts.1 l)
 
   no_column : (e : PxError) → column_of c whole ≡ Err e → IsCause e (column_plan c) whole
   no_column e h = by (finds_misfit whole c) (found_by c whole) refl refl h
@@ -119,6 +135,6 @@ module _ (c : PlannedColumn) (columns external : List Series) where
   refused _ w h = w h
 
   -- where a node has no column, that is its cause
-  pub beside_cause : (p : Planned) (copy : Result Series PxError) → p ≡ column_plan c → Answers copy (column_of c whole) → IfErr copy (λ e. IsCause e p whole)
-  beside_cause p (Ok s) i a = tt
-  beside_cause p (Err e) i a = rw i (refused e (no_column e) a)
+  pub column_cause : (p : Planned) (copy : Result Series PxError) → p ≡ column_plan c → Answers copy (column_of c whole) → IfErr copy (λ e. IsCause e p whole)
+  column_cause p (Ok s) i a = tt
+  column_cause p (Err e) i a = rw i (refused e (no_column e) a)

@@ -17,3 +17,4 @@ pub mod Exploding
 pub mod Sorting
 pub mod Ranking
 pub mod Casting
+pub mod Summing

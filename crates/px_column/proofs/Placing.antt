@@ -1,7 +1,7 @@
 -- Rows in other places, one by one.
 use Rattle.std.proofs.Common.{◌≡◌, ℕ, zero, suc, ◌+◌, ◌-◌, ◌<◌, ◌≤◌, ℤ, pos, ◌-ℤ◌, List, [], ◌∷◌, ◌++◌, length, take, drop, reverse, map, get_or, None, refl, ◌∙◌, sym, ap, arith, length-drop}
 use Rattle.std.specs.List.{range_with_len}
-use Rattle.std.proofs.lemmas.List.{length-take, length-take-le, length-reverse, get_or-take, get_or-reverse, take_all}
+use Rattle.std.proofs.lemmas.List.{length-take-le, length-reverse, get_or-take, get_or-reverse, take_all}
 use Rattle.std.proofs.lemmas.List.FromFn.{length-map-range_with_len}
 use Rattle.px_value.specs.Datum.{Slot}
 use Rattle.px_value.specs.Series.{slot_at}
@@ -21,14 +21,13 @@ slot_drop (x ∷ xs) (suc a) i = slot_drop xs a i ∙ ap (slot_at (x ∷ xs)) (l
 slot_take : (xs : List Slot) (n i : ℕ) → i < n → slot_at (take n xs) i ≡ slot_at xs i
 slot_take xs n i h = slot_get (take n xs) i ∙ get_or-take n xs i None h ∙ sym (slot_get xs i)
 
-pub window_more : (xs : List Slot) (a n i : ℕ) → a + n ≤ length xs → i < n → take (i + 1) (take n (drop a xs)) ≡ take i (take n (drop a xs)) ++ slot_at xs (a + i) ∷ []
-window_more xs a n i h k =
-    let len : length (take n (drop a xs)) ≡ n = length-take-le n (drop a xs) (omega (arith, h, length-drop a xs)) in
-    take_row (take n (drop a xs)) i (omega (arith, k, len))
-    ∙ ap (λ s. take i (take n (drop a xs)) ++ s ∷ []) (slot_take (drop a xs) n i k ∙ slot_drop xs a i)
+-- a window has as many rows as it says
+pub window_len : (xs : List Slot) (a n : ℕ) → a + n ≤ length xs → length (take n (drop a xs)) ≡ n
+window_len xs a n h = length-take-le n (drop a xs) (omega (arith, h, length-drop a xs))
 
-pub window_all : (xs : List Slot) (n i : ℕ) → n ≤ i → take i (take n xs) ≡ take n xs
-window_all xs n i h = take_all i (take n xs) (omega (arith, h, length-take n xs))
+-- a row of a window
+pub window_slot : (xs : List Slot) (a n i : ℕ) → i < n → slot_at (take n (drop a xs)) i ≡ slot_at xs (a + i)
+window_slot xs a n i h = slot_take (drop a xs) n i h ∙ slot_drop xs a i
 
 slot_reverse : (xs : List Slot) (i : ℕ) → i < length xs → slot_at (reverse xs) i ≡ slot_at xs (length xs - 1 - i)
 slot_reverse xs i h = slot_get (reverse xs) i ∙ get_or-reverse xs i None h ∙ sym (slot_get xs (length xs - 1 - i))

@@ -1,38 +1,41 @@
 //! Columns built row by row.
 ghost use Rattle.std.specs.Prelude.{◌≡◌, ◌+◌, ◌<◌, ◌^◌, ◌∷◌, ◌++◌, [], Ok, OnOk, OnErr, length, true};
-ghost use Rattle.px_value.specs.Answer.{Answers, AnswersBy};
+ghost use Rattle.px_value.specs.Answer.{Answers};
 ghost use Rattle.px_value.specs.Kind.{slot_fits};
 ghost use Rattle.px_value.specs.KindView.{kind_of};
 ghost use Rattle.px_value.specs.LentView.{slot_of_ref};
 ghost use Rattle.px_value.specs.View.{slot_of};
 
 use crate::column::Column;
-use px_value::{DataType, Name, Px, Value, ValueRef, copy_slot};
+use px_array::ArrayBuilder;
+use px_value::{DataType, Name, Px, Value, ValueRef};
 use std::alloc::Global;
 use std::marker::Model;
 
 /// A column that is being built, seen as the column of the rows so far.
-#[derive(Drop)]
 pub struct ColumnBuilder {
-    alloc: Global,
     name: Name,
-    dtype: DataType,
-    rows: Vec<Option<Value>>,
+    array: ArrayBuilder,
+}
+
+/// One call where a builder is let go, so that proofs see no more of what is inside.
+impl Drop for ColumnBuilder {
+    fn drop(self) {
+        let ColumnBuilder {
+            name: _name,
+            array: _array,
+        } = self;
+    }
 }
 
 impl Model for ColumnBuilder {
-    ghost use Rattle.px_value.specs.Series.{Series, IsColumn, coded_series};
+    ghost use Rattle.px_value.specs.Series.{Series, coded_series};
 
     ghost Value = { Series };
 
     ghost coded = { coded_series };
 
-    ghost use Rattle.px_value.specs.View.{slots_of};
-    ghost use Rattle.px_value.specs.KindView.{kind_of};
-
-    ghost view = { λ b. record { name = b.name; kind = kind_of b.dtype; slots = slots_of b.rows.items } };
-
-    ghost invariant = { λ b. IsColumn (kind_of b.dtype) (slots_of b.rows.items) };
+    ghost view = { λ b. record { name = b.name; kind = b.array.kind; slots = b.array.slots } };
 }
 
 impl ColumnBuilder {
@@ -40,13 +43,8 @@ impl ColumnBuilder {
     pub fn new(alloc: Global, name: Name, dtype: DataType, capacity: u32) -> Px<ColumnBuilder>
         ensures { Answers result (Ok (record { name = name; kind = kind_of dtype; slots = [] })) }
     {
-        let rows = Vec::with_capacity(alloc, capacity as usize)?;
-        Ok(ColumnBuilder {
-            alloc,
-            name,
-            dtype,
-            rows,
-        })
+        let array = ArrayBuilder::new(alloc, dtype, capacity)?;
+        Ok(ColumnBuilder { name, array })
     }
 
     /// One row more, which fits the type; there is room for it below 2^32. Where memory is wanting
@@ -58,11 +56,11 @@ impl ColumnBuilder {
         ensures ok { OnOk result (self.new ≡ record self.old { slots = self.old.slots ++ slot_of slot ∷ [] }) }
         ensures err { OnErr result (self.new ≡ self.old) }
     {
-        self.rows.push(slot)?;
-        Ok(())
+        self.array.push(slot)
     }
 
     /// One row more, copied, under the conditions of `push`.
+    #[inline(always)]
     pub fn push_ref(&mut self, slot: Option<ValueRef<'_>>) -> Px<()>
         requires fits { slot_fits self.old.kind (slot_of_ref slot) ≡ true }
         requires room { length self.old.slots + 1 < 2 ^ 32 }
@@ -70,7 +68,7 @@ impl ColumnBuilder {
         ensures ok { OnOk result (self.new ≡ record self.old { slots = self.old.slots ++ slot_of_ref slot.entry ∷ [] }) }
         ensures err { OnErr result (self.new ≡ self.old) }
     {
-        self.push(copy_slot(self.alloc, slot)?)
+        self.array.push_ref(slot)
     }
 
     /// All rows of a column more, copied, under the conditions of `push`.
@@ -90,7 +88,9 @@ impl ColumnBuilder {
     pub fn finish(self) -> Px<Column>
         ensures { Answers result (Ok self) }
     {
-        Column::of_fitting(self.alloc, self.name, self.dtype, self.rows)
+        let ColumnBuilder { name, array } = self;
+        let array = array.finish()?;
+        Ok(Column::of_array(name, array))
     }
 }
 

@@ -1,5 +1,5 @@
-//! A column: a name, a type and a list of optional values that fit it.
-ghost use Rattle.std.specs.Prelude.{◌≡◌, ◌<◌, ◌==◌, ◌^◌, Ok, length, vec_len, true};
+//! A column: a name and a typed array of optional values.
+ghost use Rattle.std.specs.Prelude.{◌≡◌, ◌+◌, ◌<◌, ◌≤◌, ◌==◌, ◌^◌, Ok, length, drop, take, vec_len, true};
 ghost use Rattle.px_value.specs.Answer.{Answers};
 ghost use Rattle.px_column.specs.Column.{made};
 ghost use Rattle.px_value.specs.Kind.{slots_fit, slot_fits};
@@ -8,18 +8,18 @@ ghost use Rattle.px_value.specs.LentView.{slot_of_ref};
 ghost use Rattle.px_value.specs.Series.{slot_at};
 ghost use Rattle.px_value.specs.View.{slots_of};
 
-use crate::rows::Rows;
+use crate::builder::ColumnBuilder;
+use px_array::{Array, Rows};
 use px_value::{DataType, InvalidWhy, Name, Px, PxError, Value, ValueRef, lend, slot_fits};
 use std::alloc::Global;
 use std::marker::Model;
-use std::rc::Rc;
 
-/// A column (polars `Column`), seen as its name, its type and its places, which copies of it share.
+/// A column (polars `Column`), seen as its name, its type and its places, which its copies and slices
+/// share.
 #[derive(Drop)]
 pub struct Column {
-    name: Name,
-    dtype: DataType,
-    rows: Rc<Vec<Option<Value>>>,
+    pub(crate) name: Name,
+    pub(crate) array: Array,
 }
 
 impl Model for Column {
@@ -29,21 +29,9 @@ impl Model for Column {
 
     ghost coded = { coded_series };
 
-    ghost use Rattle.px_value.specs.View.{slots_of};
-    ghost use Rattle.px_value.specs.KindView.{kind_of};
+    ghost view = { λ c. record { name = c.name; kind = c.array.kind; slots = c.array.slots } };
 
-    ghost view = { λ c. record { name = c.name; kind = kind_of c.dtype; slots = slots_of c.rows.value.items } };
-
-    ghost invariant = { λ c. IsColumn (kind_of c.dtype) (slots_of c.rows.value.items) };
-}
-
-fn slot(rows: &[Option<Value>], row: u32) -> Option<ValueRef<'_>>
-    ensures { slot_of_ref result ≡ slot_at (slots_of rows.now) row }
-{
-    match rows.get(row as usize) {
-        None => None,
-        Some(slot) => lend(slot),
-    }
+    ghost invariant = { λ c. IsColumn c.array.kind c.array.slots };
 }
 
 fn all_fit(dtype: &DataType, rows: &[Option<Value>]) -> bool
@@ -69,40 +57,37 @@ impl Column {
         requires { vec_len rows < 2 ^ 32 }
         ensures { Answers result (made name (kind_of dtype) (slots_of rows.items)) }
     {
-        if all_fit(&dtype, &rows) {
-            Column::of_fitting(alloc, name, dtype, rows)
-        } else {
-            Err(PxError::InvalidOperation(InvalidWhy::Types))
+        if !all_fit(&dtype, &rows) {
+            return Err(PxError::InvalidOperation(InvalidWhy::Types));
         }
+        let mut built = ColumnBuilder::new(alloc, name, dtype, rows.len() as u32)?;
+        for row in rows {
+            built.push(row)?;
+        }
+        built.finish()
     }
 
-    /// The column of these values, which fit the type.
-    pub(crate) fn of_fitting(
-        alloc: Global,
-        name: Name,
-        dtype: DataType,
-        rows: Vec<Option<Value>>,
-    ) -> Px<Column>
-        requires fit { slots_fit (kind_of dtype) (slots_of rows.items) ≡ true }
-        requires short { vec_len rows < 2 ^ 32 }
-        ensures { Answers result (Ok (record { name = name; kind = kind_of dtype; slots = slots_of rows.items })) }
+    /// The column of an array under a name.
+    pub(crate) fn of_array(name: Name, array: Array) -> Column
+        ensures { result ≡ record { name = name; kind = array.kind; slots = array.slots } }
     {
-        let rows = Rc::new(alloc, rows)?;
-        Ok(Column { name, dtype, rows })
+        let _ = array.rows();
+        Column { name, array }
     }
 
     /// The number of rows.
+    #[inline(always)]
     pub fn len(&self) -> u32
         ensures { result ≡ length self.now.slots }
     {
-        self.rows.len() as u32
+        self.array.len()
     }
 
     /// Whether there is no row.
     pub fn is_empty(&self) -> bool
         ensures { result ≡ (length self.now.slots == 0) }
     {
-        self.rows.is_empty()
+        self.array.len() == 0
     }
 
     /// The column's name.
@@ -116,16 +101,17 @@ impl Column {
     pub fn dtype(&self) -> &DataType
         ensures { kind_of result.now ≡ self.now.kind }
     {
-        &self.dtype
+        self.array.dtype()
     }
 
     /// The value at a row, `None` where it is a null (polars `get`).
+    #[inline(always)]
     pub fn get(&self, index: u32) -> Option<ValueRef<'_>>
         requires { index < length self.now.slots }
         ensures value { slot_of_ref result ≡ slot_at self.now.slots index }
         ensures fits { slot_fits self.now.kind (slot_of_ref result) ≡ true }
     {
-        slot(self.items(), index)
+        self.array.get(index)
     }
 
     /// The rows in order, lent (polars `iter`).
@@ -134,16 +120,17 @@ impl Column {
         ensures fit { slots_fit self.now.kind self.now.slots ≡ true }
         ensures short { length self.now.slots < 2 ^ 32 }
     {
-        Rows::over(self.items())
+        self.array.rows()
     }
 
-    /// The rows, as they stand in memory.
-    pub(crate) fn items(&self) -> &[Option<Value>]
-        ensures value { slots_of result.now ≡ self.now.slots }
-        ensures fit { slots_fit self.now.kind self.now.slots ≡ true }
-        ensures short { length self.now.slots < 2 ^ 32 }
+    /// So many rows from an offset on, all of which are there; they share the values.
+    pub fn window(&self, alloc: Global, offset: u32, count: u32) -> Px<Column>
+        requires { offset + count ≤ length self.now.slots }
+        ensures { Answers result (Ok (record self.now { slots = take count (drop offset self.now.slots) })) }
     {
-        &self.rows
+        let name = self.name.try_clone(alloc)?;
+        let array = self.array.slice(alloc, offset, count)?;
+        Ok(Column::of_array(name, array))
     }
 
     /// An equal column, which shares the values.
@@ -152,8 +139,7 @@ impl Column {
     {
         Ok(Column {
             name: self.name.try_clone(alloc)?,
-            dtype: self.dtype.try_clone(alloc)?,
-            rows: self.rows.clone()?,
+            array: self.array.try_clone(alloc)?,
         })
     }
 
@@ -161,10 +147,7 @@ impl Column {
     pub fn with_name(self, name: Name) -> Column
         ensures { result ≡ record self { name = name } }
     {
-        Column {
-            name,
-            dtype: self.dtype,
-            rows: self.rows,
-        }
+        let Column { name: _old, array } = self;
+        Column { name, array }
     }
 }

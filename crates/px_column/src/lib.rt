@@ -8,12 +8,13 @@ mod reading;
 mod repeat;
 mod row_by_row;
 mod row_key;
-mod rows;
 mod take;
+mod view;
 
 pub use builder::ColumnBuilder;
 pub use column::Column;
 pub use kernels::{prepare_bool_vec, slice_window};
+pub use px_array::Rows;
 pub use px_operation::{
     cast_type, is_boolean, is_cast, is_integer, operator_type, reduced_type, same_type, sum_type,
     type_where, wrap_sum,
@@ -24,4 +25,4 @@ pub use px_value::{
     ValueRef, Values,
 };
 pub use row_key::RowKey;
-pub use rows::Rows;
+pub use view::ColumnView;

@@ -1,48 +1,48 @@
 //! Columns that hold the same at each row.
-ghost use Rattle.std.specs.Prelude.{◌≡◌, ◌<◌, Ok, Some, None, length, true};
+ghost use Rattle.std.specs.Prelude.{◌≡◌, ◌<◌, Ok, Some, None, length, true, false, is_ok};
 ghost use Rattle.px_value.specs.Answer.{Answers};
-ghost use Rattle.px_value.specs.Kind.{fits, slot_fits};
+ghost use Rattle.px_value.specs.Kind.{fits, is_list_kind, slot_fits};
 ghost use Rattle.px_value.specs.KindView.{kind_of};
-ghost use Rattle.px_value.specs.LentView.{slot_of_ref};
 ghost use Rattle.px_column.specs.Repeat.{repeated};
 ghost use Rattle.px_value.specs.Series.{slot_at};
-ghost use Rattle.px_value.specs.View.{datum_of};
+ghost use Rattle.px_value.specs.View.{datum_of, slot_of};
 
-use crate::builder::ColumnBuilder;
 use crate::column::Column;
-use px_value::{DataType, Name, Px, Value, ValueRef};
+use px_array::Array;
+use px_value::{DataType, Name, Px, Value, copy_slot};
 use std::alloc::Global;
 
+/// The column of this place at each of `len` rows.
 fn repeat_slot(
     alloc: Global,
     name: Name,
     dtype: DataType,
-    slot: Option<ValueRef<'_>>,
+    slot: Option<Value>,
     len: u32,
 ) -> Px<Column>
-    requires { slot_fits (kind_of dtype) (slot_of_ref slot) ≡ true }
-    ensures { Answers result (Ok (repeated name (kind_of dtype) (slot_of_ref slot.entry) len)) }
+    requires { slot_fits (kind_of dtype) (slot_of slot) ≡ true }
+    ensures answer { Answers result (Ok (repeated name (kind_of dtype) (slot_of slot) len)) }
+    ensures memory { is_list_kind (kind_of dtype) ≡ false → is_ok result ≡ true }
 {
-    let mut rows = ColumnBuilder::new(alloc, name, dtype, len)?;
-    for _ in 0..len {
-        rows.push_ref(slot)?;
-    }
-    rows.finish()
+    let array = Array::full(alloc, dtype, slot, len)?;
+    Ok(Column::of_array(name, array))
 }
 
 impl Column {
-    /// The column of this value at each of `len` rows (polars `Column::full`). The value fits the type,
-    /// as `Value::fits` tells.
+    /// The column of this value at each of `len` rows (polars `Column::full`), kept once. The value fits
+    /// the type, as `Value::fits` tells. Only a List type wants memory.
     pub fn full(alloc: Global, name: Name, dtype: DataType, value: Value, len: u32) -> Px<Column>
         requires { fits (kind_of dtype) (datum_of value) ≡ true }
-        ensures { Answers result (Ok (repeated name (kind_of dtype) (Some (datum_of value)) len)) }
+        ensures answer { Answers result (Ok (repeated name (kind_of dtype) (Some (datum_of value)) len)) }
+        ensures memory { is_list_kind (kind_of dtype) ≡ false → is_ok result ≡ true }
     {
-        repeat_slot(alloc, name, dtype, Some(value.lend()), len)
+        repeat_slot(alloc, name, dtype, Some(value), len)
     }
 
-    /// The column of `len` nulls (polars `Series::full_null`).
+    /// The column of `len` nulls (polars `Series::full_null`). Only a List type may want memory.
     pub fn full_null(alloc: Global, name: Name, len: u32, dtype: DataType) -> Px<Column>
-        ensures { Answers result (Ok (repeated name (kind_of dtype) None len)) }
+        ensures answer { Answers result (Ok (repeated name (kind_of dtype) None len)) }
+        ensures memory { is_list_kind (kind_of dtype) ≡ false → is_ok result ≡ true }
     {
         repeat_slot(alloc, name, dtype, None, len)
     }
@@ -55,6 +55,6 @@ impl Column {
     {
         let name = self.name().try_clone(alloc)?;
         let dtype = self.dtype().try_clone(alloc)?;
-        repeat_slot(alloc, name, dtype, self.get(index), len)
+        repeat_slot(alloc, name, dtype, copy_slot(alloc, self.get(index))?, len)
     }
 }

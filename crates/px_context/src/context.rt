@@ -20,7 +20,6 @@ use std::marker::Model;
 /// One cell for each group, laid out in one of four states: what an expression has on that group's rows
 /// alone. Seen as its layout, its column of values, its groups, the update of the groups that is
 /// pending, and the mark that its layout is the frame's own and untouched; its cells are told by these.
-#[derive(Drop)]
 pub struct AggregationContext<'a> {
     state: AggState<'a>,
     groups: GroupsRef<'a>,
@@ -28,6 +27,19 @@ pub struct AggregationContext<'a> {
     // Of a literal, whether it is a unit.
     is_unit: bool,
     is_untouched: bool,
+}
+
+/// One call where a context is let go, so that proofs see no more of what is inside.
+impl Drop for AggregationContext<'_> {
+    fn drop(self) {
+        let AggregationContext {
+            state: _state,
+            groups: _groups,
+            update: _,
+            is_unit: _,
+            is_untouched: _,
+        } = self;
+    }
 }
 
 impl<'a> Model for AggregationContext<'a> {

@@ -8,7 +8,6 @@ use px_frame::GroupPositions;
 use std::alloc::Global;
 
 /// A column that is lent, or owned.
-#[derive(Drop)]
 pub enum ColRef<'a> {
     /// A column that another owns.
     Borrowed(&'a Column),
@@ -16,13 +15,32 @@ pub enum ColRef<'a> {
     Owned(Column),
 }
 
+/// One call where a column is let go, so that proofs see no case of it.
+impl Drop for ColRef<'_> {
+    fn drop(self) {
+        match self {
+            ColRef::Borrowed(_column) => {}
+            ColRef::Owned(_column) => {}
+        }
+    }
+}
+
 /// Groups that are lent, or owned (polars `Cow<'a, GroupPositions>`).
-#[derive(Drop)]
 pub enum GroupsRef<'a> {
     /// Groups that another owns.
     Borrowed(&'a GroupPositions),
     /// Groups of its own.
     Owned(GroupPositions),
+}
+
+/// One call where groups are let go, so that proofs see no case of them.
+impl Drop for GroupsRef<'_> {
+    fn drop(self) {
+        match self {
+            GroupsRef::Borrowed(_groups) => {}
+            GroupsRef::Owned(_groups) => {}
+        }
+    }
 }
 
 impl<'a> ColRef<'a> {

@@ -3,3 +3,4 @@ pub mod Separated
 pub mod Forms
 pub mod StepForms
 pub mod Readings
+pub mod Fitting

@@ -4,7 +4,7 @@ use Rattle.std.specs.Option.{option_or}
 use Rattle.std.specs.Str.{bytes_eq}
 use Rattle.serde_json.specs.Data.{Data}
 use Rattle.serde_json.specs.Find.{as_null, as_bool, as_number, as_str, as_integer}
-use Rattle.px_column.specs.Prelude.{Datum, boolean, integer, text, bytes, list, Slot, slots, Kind, booleans, int8s, int16s, int32s, int64s, uint8s, uint16s, uint32s, uint64s, strings, binaries, nulls, lists, slots_fit, Series}
+use Rattle.px_column.specs.Prelude.{Datum, boolean, integer, text, bytes, list, Slot, slots, Kind, booleans, int8s, int16s, int32s, int64s, uint8s, uint16s, uint32s, uint64s, strings, binaries, nulls, lists, slot_fits, slots_fit, Series}
 use Rattle.px_column.specs.Option.{◌>>=◌, each}
 use Rattle.px_document.specs.Form.{items, fields}
 use Rattle.px_tree.specs.Step.{PlainStep, step_view}
@@ -82,9 +82,17 @@ place_of nulls d = unless_null d None
 place_of (lists k) d = unless_null d (items d >>= each (λ e. place_of k e) >>= short_list)
 place_of _ d = unless_null d (option_map integer (as_number d >>= as_integer))
 
+-- a place whose value fits the type
+abbrev pub fitting_place : Kind → Data → Option Slot
+fitting_place k d = place_of k d >>= λ s. if slot_fits k s then Some s else None
+
+-- a column of these places
+abbrev pub rows_under : List ℕ → Kind → List Slot → Series
+rows_under name kind xs = record { name = name; kind = kind; slots = xs }
+
 -- a column of these places, where each fits the type and there are fewer than 2^32 of them
 abbrev pub column_with : List ℕ → Kind → List Slot → Option Series
-column_with name kind xs = if nat_lt (length xs) (2 ^ 32) && slots_fit kind xs then Some (record { name = name; kind = kind; slots = xs }) else None
+column_with name kind xs = if nat_lt (length xs) (2 ^ 32) && slots_fit kind xs then Some (rows_under name kind xs) else None
 
 -- a column's name, its type and its values, each of them a place
 abbrev pub column_of_parts : List Data → Option Series

@@ -140,37 +140,20 @@ module _ (expr : Data → Option Tree) where
     Some (cast input kind options)
   cast_parts _ = None
 
-  abbrev pub two_inputs : Data → Data → Option Tree
-  two_inputs a b = do
-    first ← expr a
-    second ← expr b
-    Some (function (one_tree first (one_tree second no_trees)) (by_name IsIn))
-
-  abbrev pub shift_of : Data → Data → Option Tree
-  shift_of n e = do
-    periods ← int64_of n
-    input ← expr e
-    Some (function (one_tree input no_trees) (by_name (Shift periods)))
-
-  abbrev pub between_of : Data → Data → Data → Data → Option Tree
-  between_of c a b d = do
-    ends ← as_str c >>= closed_named
-    value ← expr a
-    low ← expr b
-    high ← expr d
-    Some (function (one_tree value (one_tree low (one_tree high no_trees))) (by_name (IsBetween ends)))
+  -- a function of some inputs
+  abbrev pub call_of : FunctionExpr → List Data → Option Tree
+  call_of f es = option_map (λ inputs. function (trees_of inputs) (by_name f)) (each expr es)
 
   -- the function's name, what it takes besides, and its inputs
   abbrev pub function_parts : List Data → Option Tree
-  function_parts (f ∷ e ∷ []) = do
-    function' ← as_str f >>= function_named
-    input ← expr e
-    Some (function (one_tree input no_trees) (by_name function'))
+  function_parts (f ∷ e ∷ []) = as_str f >>= function_named >>= λ name. call_of name (e ∷ [])
   function_parts (f ∷ a ∷ b ∷ []) =
-      if is_text (codes "IsIn") f then two_inputs a b
-      else if is_text (codes "Shift") f then shift_of a b
+      if is_text (codes "IsIn") f then call_of IsIn (a ∷ b ∷ [])
+      else if is_text (codes "Shift") f then (int64_of a >>= λ periods. call_of (Shift periods) (b ∷ []))
       else None
-  function_parts (f ∷ c ∷ a ∷ b ∷ d ∷ []) = if is_text (codes "IsBetween") f then between_of c a b d else None
+  function_parts (f ∷ c ∷ a ∷ b ∷ d ∷ []) =
+      if is_text (codes "IsBetween") f then (as_str c >>= closed_named >>= λ ends. call_of (IsBetween ends) (a ∷ b ∷ d ∷ []))
+      else None
   function_parts _ = None
 
   abbrev pub filter_parts : List Data → Option Tree

@@ -18,12 +18,12 @@ use crate::phys_expr::{
     PhysExpr, collect_all, evaluate_cell, evaluate_cells, has_literals_alone, have_literals_alone,
 };
 use crate::physical::{PhysicalExpr, expression_field};
-use crate::scope::scope_beside;
 use indexmap::IndexSet;
 use px_column::{Column, InvalidWhy, Name, Px, PxError, SortOptions, Steps};
 use px_context::AggregationContext;
 use px_frame::{Cell, DataFrame, Field, GroupPositions, GroupsType, Schema};
 use px_plan::{Context, Expr, WindowMapping, type_of};
+use px_scope::scope_beside;
 use px_window::ExecutionState;
 use px_window_node::{place_window, window_parts};
 use std::alloc::Global;

@@ -36,12 +36,21 @@ impl Model for UnitColumn {
 
 /// The value of an expression on a frame: one value, which stands beside lists of any length, or one
 /// for each of some rows.
-#[derive(Drop)]
 pub enum Cell {
     /// One value.
     Unit(UnitColumn),
     /// One value for each row. One row is no unit.
     Rows(Column),
+}
+
+/// One call where a cell is let go, so that proofs see no more of what is inside.
+impl Drop for Cell {
+    fn drop(self) {
+        match self {
+            Cell::Unit(_unit) => {}
+            Cell::Rows(_column) => {}
+        }
+    }
 }
 
 impl UnitColumn {
@@ -137,11 +146,11 @@ impl Cell {
 pub fn spread(alloc: Global, cell: Cell, height: u32) -> Px<Column>
     ensures { Answers result (spread_column height (named_cell cell)) }
 {
-    match cell {
+    match &cell {
         Cell::Unit(unit) => unit.repeat(alloc, height),
         Cell::Rows(column) => {
             if column.len() == height {
-                Ok(column)
+                Ok(cell.into_column())
             } else {
                 Err(PxError::ShapeMismatch)
             }
@@ -171,8 +180,8 @@ fn distinct_names(alloc: Global, cells: &[Cell]) -> Px<IndexSet<Name>>
     Ok(names)
 }
 
-/// Each cell as a column of `height` rows.
-fn spread_each(alloc: Global, cells: Vec<Cell>, height: u32) -> Px<Vec<Column>>
+/// Each cell as a column of `height` rows, in their order, each as `spread` says.
+pub fn spread_each(alloc: Global, cells: Vec<Cell>, height: u32) -> Px<Vec<Column>>
     ensures { AnswersBy (λ v. v.items) result (spread_all height (map named_cell cells.items)) }
 {
     let mut columns = Vec::with_capacity(alloc, cells.len())?;

@@ -5,7 +5,7 @@ ghost use Rattle.px_column.specs.Prelude.{Answers, AnswersBy};
 ghost use Rattle.px_column.specs.Column.{all_within};
 ghost use Rattle.px_column.specs.Operator.{is_boolean_kind};
 ghost use Rattle.px_value.specs.declared.error.PxError.TheVariants.{Duplicate};
-ghost use Rattle.px_frame.specs.Frame.{look, height_of, frame_of, first_repeat, all_have_height, has_height, names_of, name_eq, unless_repeated, subframe, are_below, are_in_all, taken_series, kept_frame, kept_series};
+ghost use Rattle.px_frame.specs.Frame.{look, height_of, frame_of, first_repeat, all_have_height, has_height, names_of, name_eq, unless_repeated, subframe, are_below, are_in_all, taken_series, kept_frame, kept_series, series_at};
 ghost use Rattle.px_frame.specs.Schema.{column_field};
 
 use crate::schema::{Schema, schema_of};
@@ -149,15 +149,17 @@ impl DataFrame {
         DataFrame::new(alloc, take_columns(alloc, &self.columns, &indices)?)
     }
 
-    /// The `length` rows from `offset` on, all of which are there (polars `slice`).
+    /// The `length` rows from `offset` on, all of which are there (polars `slice`); the columns share
+    /// their values.
     pub fn slice(&self, alloc: Global, offset: u32, length: u32) -> Px<DataFrame>
         requires { offset + length ≤ height_of self.now }
         ensures { Answers result (Ok (subframe self.now (range_with_len offset length))) }
     {
         let height = self.height();
-        prove!(length <= height && offset <= height - length);
-        let rows = rows_from(alloc, offset, length)?;
-        self.take_rows(alloc, &rows)
+        DataFrame::new(
+            alloc,
+            slice_columns(alloc, &self.columns, height, offset, length)?,
+        )
     }
 
     /// The rows whose mask is true; a null in the mask keeps no row (polars `filter`, which repeats a
@@ -238,16 +240,33 @@ fn filter_columns(alloc: Global, columns: &[Column], mask: &Column) -> Px<Vec<Co
     Ok(kept)
 }
 
-/// `length` row numbers from `offset` on.
-fn rows_from(alloc: Global, offset: u32, length: u32) -> Px<Vec<u32>>
-    requires { offset + length < 2 ^ 32 }
-    ensures { AnswersBy (λ v. v.items) result (Ok (range_with_len offset length)) }
+/// So many rows of a column of this height from an offset on, which share its values.
+#[tactic(auto, using(crate::proofs::Each::has_height_is, crate::proofs::Ranges::range_slots))]
+fn slice_column(alloc: Global, column: &Column, height: u32, offset: u32, count: u32) -> Px<Column>
+    requires height { has_height height column.now ≡ true }
+    requires within { offset + count ≤ height }
+    ensures { Answers result (Ok (series_at (range_with_len offset count) column.now)) }
 {
-    let mut rows = Vec::with_capacity(alloc, length as usize)?;
-    for index in 0..length {
-        rows.push(offset + index)?;
+    column.window(alloc, offset, count)
+}
+
+/// So many rows of each column from an offset on.
+fn slice_columns(
+    alloc: Global,
+    columns: &[Column],
+    height: u32,
+    offset: u32,
+    count: u32,
+) -> Px<Vec<Column>>
+    requires height { all_have_height height columns.now ≡ true }
+    requires within { offset + count ≤ height }
+    ensures { AnswersBy (λ v. v.items) result (Ok (subframe columns.now (range_with_len offset count))) }
+{
+    let mut slices = Vec::with_capacity(alloc, columns.len())?;
+    for column in columns {
+        slices.push(slice_column(alloc, column, height, offset, count)?)?;
     }
-    Ok(rows)
+    Ok(slices)
 }
 
 fn copy_columns(alloc: Global, columns: &[Column]) -> Px<Vec<Column>>

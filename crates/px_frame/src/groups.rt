@@ -30,10 +30,19 @@ pub enum GroupsType {
 
 /// Groups with the height that bounds their rows. A group may be empty, may overlap others and may
 /// repeat rows. Seen as the height and, for each group, its number `first` and its rows.
-#[derive(Drop)]
 pub struct GroupPositions {
     groups: GroupsType,
     height: u32,
+}
+
+/// One call where groups are let go, so that proofs see no more of what is inside.
+impl Drop for GroupPositions {
+    fn drop(self) {
+        let GroupPositions {
+            groups: _groups,
+            height: _,
+        } = self;
+    }
 }
 
 impl Model for GroupPositions {

@@ -16,7 +16,7 @@ mod unsigned;
 pub use aggregate::{
     agg_count, agg_first, agg_last, agg_list, agg_max, agg_min, agg_n_unique, agg_sum, key_rows,
 };
-pub use cell::{Cell, UnitColumn, assemble, spread};
+pub use cell::{Cell, UnitColumn, assemble, spread, spread_each};
 pub use frame::{DataFrame, add_name};
 pub use grouping::group_by;
 pub use groups::{GroupPositions, GroupsIndicator, GroupsType, IdxVec};

@@ -81,3 +81,13 @@ ternary_made p a b truths same h = by (is_boolean_kind p.kind) truths (kind_eq a
     by true g true i =
         ap (λ (r : Result ℕ PxError). as_cell (are_three_units p.cell a.cell b.cell) (r >>= λ n. Ok (record { name = a.name; kind = a.kind; slots = zipped_three chosen (rows_to n (list_of p.cell)) (rows_to n (list_of a.cell)) (rows_to n (list_of b.cell)) }))) (common_three p.cell a.cell b.cell h)
         ∙ sym (ap (under a.name a.kind) (three_beside chosen p.cell a.cell b.cell h))
+
+-- which is one row of units alone
+pub ternary_one : (p a b : NamedCell) (s : Series) → chosen_column (column_of_cell p) (column_of_cell a) (column_of_cell b) ≡ Ok s → are_three_units p.cell a.cell b.cell ≡ true → length s.slots ≡ 1
+ternary_one p a b s h u = by (is_boolean_kind p.kind) (kind_eq a.kind b.kind) h
+  where
+    by : (x y : Bool) → (if x then (kind_where y a.kind >>= λ k. length_of_three (count_of p.cell) (count_of a.cell) (count_of b.cell) >>= λ n. Ok (record { name = a.name; kind = a.kind; slots = zipped_three chosen (rows_to n (list_of p.cell)) (rows_to n (list_of a.cell)) (rows_to n (list_of b.cell)) })) else Err SchemaMismatch) ≡ Ok s
+        → length s.slots ≡ 1
+    by false y g = absurd (cc)
+    by true false g = absurd (cc)
+    by true true g = one_of_three a.name (Ok a.kind) chosen p.cell a.cell b.cell s g u

@@ -20,8 +20,8 @@ use Rattle.px_value.proofs.FitLaws.{both}
 use Rattle.px_frame.specs.Cell.{Cell, unit, rows, list_of, count_of}
 use Rattle.px_frame.specs.Frame.{are_below, slots_at}
 use Rattle.px_frame.specs.Spread.{NamedCell, before_all, column_of_cell, spread, spread_all, with_slots}
-use Rattle.px_tree.specs.Node.{sort_by_cell, spread_keys}
-use Rattle.px_nodes.specs.Named.{as_cell, cells_in, kinds_of, sort_by_named, sorted_column_by, under}
+use Rattle.px_tree.specs.Node.{sort_by_cell, sort_cell, spread_keys}
+use Rattle.px_nodes.specs.Named.{as_cell, cells_in, kinds_of, sort_by_named, sort_named, sorted_column, sorted_column_by, under}
 use Rattle.px_nodes.proofs.Answering.{refuses_then}
 
 module _ (keys : List (SortOptions × List Slot)) where
@@ -70,6 +70,15 @@ sorted_is options s found h = by (is_list_kind s.kind) h
     by : (b : Bool) → (if b then Err (InvalidOperation ListKey) else Ok (sorted_rows ((options, s.slots) ∷ []) (length s.slots))) ≡ Ok found → found ≡ sorted_rows ((options, s.slots) ∷ []) (length s.slots)
     by true g = absurd (cc)
     by false g = cc
+
+-- a cell's rows in order are its column's
+pub sort_made : (options : SortOptions) (c : NamedCell) → as_cell false (sorted_column options (column_of_cell c)) ≡ sort_named options c
+sort_made options c = by (is_list_kind c.kind)
+  where
+    by : (b : Bool) → as_cell false ((if b then Err (InvalidOperation ListKey) else Ok (sorted_rows ((options, list_of c.cell) ∷ []) (length (list_of c.cell)))) >>= λ found. Ok (with_rows (column_of_cell c) (slots_at (list_of c.cell) found)))
+        ≡ (if b then Err (InvalidOperation ListKey) else under c.name c.kind (sort_cell options c.cell))
+    by true = refl
+    by false = refl
 
 -- without keys rows stay as they are
 with_last : (js : List ℕ) (i : ℕ) → with_row [] js i ≡ js ++ i ∷ []

@@ -3,12 +3,11 @@ ghost use Rattle.std.specs.Prelude.{◌≡◌, ◌+◌, ◌≤◌, ◌==◌, Ok,
 ghost use Rattle.std.specs.List.{list_all, list_any};
 ghost use Rattle.px_column.specs.Prelude.{Answers, AnswersBy, is_list_kind};
 ghost use Rattle.px_frame.specs.CellView.{named_cell};
-ghost use Rattle.px_frame.specs.Spread.{spread_all};
 ghost use Rattle.px_nodes.specs.Named.{kinds_of, sort_by_named, sorted_column_by};
 
 use crate::answer::into_cell;
 use px_column::{Column, InvalidWhy, Px, PxError, SortMultipleOptions, Steps};
-use px_frame::{Cell, spread, take_rows};
+use px_frame::{Cell, spread_each, take_rows};
 use std::alloc::Global;
 use std::sync::ledger::Ledger;
 
@@ -22,17 +21,6 @@ fn has_lists(keys: &[Cell]) -> bool
         }
     }
     false
-}
-
-/// Each key as a column of `height` rows.
-fn spread_keys(alloc: Global, keys: Vec<Cell>, height: u32) -> Px<Vec<Column>>
-    ensures { AnswersBy (λ v. v.items) result (spread_all height (map named_cell keys.items)) }
-{
-    let mut columns = Vec::with_capacity(alloc, keys.len())?;
-    for key in keys {
-        columns.push(spread(alloc, key, height)?)?;
-    }
-    Ok(columns)
 }
 
 /// The rows in the order of keys of the column's length, which are no lists; as they are without keys.
@@ -79,7 +67,7 @@ pub fn sort_by_cells<L: Ledger>(
         return Err(PxError::InvalidOperation(InvalidWhy::ListKey));
     }
     let column = input.as_column();
-    let keys = spread_keys(alloc, by, column.len())?;
+    let keys = spread_each(alloc, by, column.len())?;
     into_cell(
         sort_column_by(alloc, column, &keys, sort_options, kernels),
         false,

@@ -119,7 +119,8 @@ fn on_frame<L: Ledger, M: Ledger>(
     let mut state = ExecutionState::new(alloc, false)?;
     let mut kernels = Steps::<L>::new(kernels);
     let mut groupings = Steps::<M>::new(groupings);
-    match evaluate_cell(alloc, node, frame, &mut state, &mut kernels, &mut groupings)? {
+    let cell = evaluate_cell(alloc, node, frame, &mut state, &mut kernels, &mut groupings)?;
+    match &cell {
         Cell::Unit(unit) => unit.as_column().try_clone(alloc),
         Cell::Rows(rows) => rows.reduce(alloc, GroupByMethod::Implode, &mut kernels),
     }

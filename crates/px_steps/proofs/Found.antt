@@ -18,18 +18,10 @@ use Rattle.px_tree.specs.declared.context.Context.{Context}
 use Rattle.px_tree.specs.declared.context.Context.TheVariants.{Aggregation, Default}
 use Rattle.px_answers.specs.Planned.{PlannedColumn, is_added, is_reserved}
 use Rattle.px_answers.specs.Value.{finds_misfit, has_misfit_column, unfound_refusal}
+use Rattle.px_scope.proofs.Fields.{field_there}
 use Rattle.px_expr.specs.Plan.{planned_over}
 use Rattle.px_tree.proofs.KindLaws.{none_left as nil_left, none_right as nil_right, none_first as inputs_none}
 use Rattle.px_value.proofs.FitLaws.{all_append, both}
-
--- a name stands among the fields where one of them has it
-pub field_there : (n : List ℕ) (fields : List FieldKind) → is_some (find (has_field_name n) fields) ≡ is_field_name n fields
-field_there n [] = refl
-field_there n (f ∷ fields) = by (name_eq n f.name) (field_there n fields)
-  where
-    by : (b : Bool) → is_some (find (has_field_name n) fields) ≡ is_field_name n fields → is_some (cond b (Some f) (find (has_field_name n) fields)) ≡ (b || is_field_name n fields)
-    by true rest = refl
-    by false rest = rest
 
 -- a field behind others is found where none of them has its name
 field_behind : (n : List ℕ) (fields : List FieldKind) (f : FieldKind) → find (has_field_name n) (fields ++ f ∷ []) ≡ option_or (find (has_field_name n) fields) (cond (name_eq n f.name) (Some f) None)

@@ -38,7 +38,8 @@ use Rattle.px_tree.specs.Step.{group}
 use Rattle.px_steps.proofs.Columns.{all_true, and_then_some, heights_of_keys, keys_of_groups, names_of_keys, rows_of_groups}
 use Rattle.px_frame.proofs.LookLaws.{has_length}
 use Rattle.px_frame.proofs.LookLaws.{even_from}
-use Rattle.px_steps.proofs.Grouping.{accepted_lacks, no_refusal, value_there}
+use Rattle.px_scope.proofs.Fields.{no_refusal}
+use Rattle.px_steps.proofs.Grouping.{accepted_lacks, value_there}
 use Rattle.px_steps.proofs.Selected.{name_kept, once_none, refusal_cause, refuses_or}
 use Rattle.px_steps.proofs.Misfits.{faults_apart, faults_sound, misfit_aggs, misfit_keys, no_misfits, no_misfits_both, one_apart, one_left, one_right}
 use Rattle.px_steps.proofs.Named.{IsFirst_append}

@@ -3,6 +3,7 @@ use Rattle.std.proofs.Common.{◌≡◌, inl, ℕ, List, [], ◌∷◌, ◌++◌
 use Rattle.px_column.specs.Prelude.{Answers, Refuses, Kind}
 use Rattle.px_value.specs.declared.error.PxError.{PxError}
 use Rattle.px_value.specs.declared.error.PxError.TheVariants.{OutOfMemory, ColumnNotFound, Duplicate, InvalidOperation, ComputeError, OutOfBounds, ShapeMismatch, SchemaMismatch}
+use Rattle.px_scope.proofs.Fields.{no_refusal}
 use Rattle.px_expr.specs.Plan.{planned_over}
 use Rattle.px_answers.specs.Planned.{Planned}
 use Rattle.px_answers.specs.Value.{IsCause, IsCellOf, causes_on}
@@ -31,17 +32,6 @@ no_first (ComputeError w) refusals n h = cc
 no_first OutOfBounds refusals n h = cc
 no_first ShapeMismatch refusals n h = cc
 no_first SchemaMismatch refusals n h = cc
-
--- where a value is expected, memory was wanting
-pub no_refusal : {Y : Type 0} (e : PxError) (r : Result Y PxError) (y : Y) → r ≡ Ok y → Refuses e r → e ≡ OutOfMemory
-no_refusal OutOfMemory r y o h = refl
-no_refusal (ColumnNotFound m) r y o h = cc
-no_refusal (Duplicate m) r y o h = cc
-no_refusal (InvalidOperation w) r y o h = cc
-no_refusal (ComputeError w) r y o h = cc
-no_refusal OutOfBounds r y o h = cc
-no_refusal ShapeMismatch r y o h = cc
-no_refusal SchemaMismatch r y o h = cc
 
 -- what is found where there is a value and no fault
 pub finds_same : {X : Type 0} (r : Result X PxError) (y : X) (meant : Option X) (faults : List PxError) (n : ℕ) → Answers r (Ok y) → meant ≡ Some y → faults ≡ [] → Finds r meant faults n

@@ -15,4 +15,3 @@ pub mod Command
 pub mod Aggregated
 pub mod Nodes
 pub mod Kernels
-pub mod Fields

@@ -11,8 +11,7 @@ ghost use Rattle.px_answers.specs.Counted.{RisesAtMost};
 ghost use Rattle.px_steps.specs.Plain.{groupings_in, kernels_in, most_kernels_in};
 ghost use Rattle.px_window.specs.State.{beside};
 
-use crate::planning::{plan_typed, spread_value};
-use crate::scope::step_schema;
+use crate::planning::{plan_typed, spread_value, step_schema};
 use px_column::{Px, PxError, Steps, is_boolean};
 use px_expr::PhysExpr;
 use px_frame::{DataFrame, SchemaRef};

@@ -25,8 +25,7 @@ ghost use Rattle.px_tree.specs.Step.{group};
 ghost use Rattle.px_window.specs.State.{beside};
 
 use crate::aggregation::aggregate;
-use crate::planning::{add_names, plan_all, plan_typed, spread_value};
-use crate::scope::step_schema;
+use crate::planning::{add_names, plan_all, plan_typed, spread_value, step_schema};
 use indexmap::IndexSet;
 use px_column::{Column, ComputeWhy, InvalidWhy, Px, PxError, Steps};
 use px_expr::PhysExpr;

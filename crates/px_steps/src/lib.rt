@@ -8,7 +8,6 @@ mod planning;
 mod reply;
 pub mod run;
 mod runner;
-mod scope;
 mod select_step;
 mod status;
 

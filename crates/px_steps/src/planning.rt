@@ -1,10 +1,11 @@
 //! Expressions as nodes, and what these give on a frame.
-ghost use Rattle.std.specs.Prelude.{◌≡◌, ◌+◌, ◌≤◌, ◌++◌, ◌∷◌, [], Some, IfOk, OnOk, map};
+ghost use Rattle.std.specs.Prelude.{◌≡◌, ◌+◌, ◌≤◌, ◌++◌, ◌∷◌, [], Some, Ok, IfOk, OnOk, map};
 ghost use Rattle.std.specs.List.{flat_map};
 ghost use Rattle.px_answers.specs.Counted.{RisesAtMost, flat_kernels};
 ghost use Rattle.px_expr.specs.NodeView.{plan_of};
 ghost use Rattle.px_expr.specs.Plan.{planned_over};
-ghost use Rattle.px_column.specs.Prelude.{kind_of};
+ghost use Rattle.px_column.specs.Prelude.{AnswersBy, kind_of};
+ghost use Rattle.px_frame.specs.External.{scope_of};
 ghost use Rattle.px_tree.specs.Cost.{cost_on, windows_in};
 ghost use Rattle.px_tree.specs.Shape.{name_of};
 ghost use Rattle.px_tree.specs.Size.{size_on};
@@ -21,9 +22,18 @@ use px_column::{Column, DataType, Name, Px, PxError, Steps};
 use px_expr::{ExpressionConversionState, PhysExpr, create_typed_expr, evaluate_cell};
 use px_frame::{DataFrame, SchemaRef, add_name, spread};
 use px_plan::{Arena, Context, Expr, ExprIR, fits_arena, output_name, to_arena};
+use px_scope::scope_beside;
 use px_window::ExecutionState;
 use std::alloc::Global;
+use std::rc::Rc;
 use std::sync::ledger::Ledger;
+
+/// The names and types of a frame's columns, and then of those beside it that are not named yet.
+pub(crate) fn step_schema(alloc: Global, frame: &DataFrame, state: &ExecutionState) -> Px<SchemaRef>
+    ensures { AnswersBy (λ s. s.value) result (Ok (scope_of (beside frame.now state.now))) }
+{
+    Ok(Rc::new(alloc, scope_beside(alloc, frame, state)?)?)
+}
 
 /// The node of an expression over a schema and the type of its values, or its first refusal in its place.
 #[tactic(auto, using(crate::proofs::Selected::planned_meets, crate::proofs::Nodes::kind_typed))]

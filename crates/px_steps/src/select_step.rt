@@ -8,8 +8,7 @@ ghost use Rattle.px_steps.specs.Meets.{Meets};
 ghost use Rattle.px_steps.specs.Plain.{groupings_in, kernels_in, most_kernels_in, repeat_refusal};
 ghost use Rattle.px_window.specs.State.{beside};
 
-use crate::planning::{add_names, plan_all};
-use crate::scope::step_schema;
+use crate::planning::{add_names, plan_all, step_schema};
 use indexmap::IndexSet;
 use px_column::{Px, Steps};
 use px_expr::evaluate_cells;

@@ -57,86 +57,81 @@ abbrev mutual
   are_units (one_tree t ts) = is_unit t && are_units ts
 
 abbrev mutual
-  -- whether each leaf of an expression is a literal; the length is a leaf and no literal
-  pub is_literal_tree : Tree → Bool
-  is_literal_tree (column n) = false
-  is_literal_tree (literal v) = true
-  is_literal_tree (alias e n) = is_literal_tree e
-  is_literal_tree (binary l op r) = is_literal_tree l && is_literal_tree r
-  is_literal_tree (ternary p a b) = is_literal_tree p && (is_literal_tree a && is_literal_tree b)
-  is_literal_tree (cast e k options) = is_literal_tree e
-  is_literal_tree (function es f) = are_literal_trees es
-  is_literal_tree (filter e by) = is_literal_tree e && is_literal_tree by
-  is_literal_tree (slice e offset length) = is_literal_tree e && (is_literal_tree offset && is_literal_tree length)
-  is_literal_tree (gather e idx one) = is_literal_tree e && is_literal_tree idx
-  is_literal_tree (sort e options) = is_literal_tree e
-  is_literal_tree (sort_by e by options) = is_literal_tree e && are_literal_trees by
-  is_literal_tree (agg m e) = is_literal_tree e
-  is_literal_tree len = false
-  is_literal_tree (window f keys order mapping) = is_literal_tree f && (are_literal_trees keys && is_literal_order order)
+  -- what the nodes of an expression come to together: what each has of its own, joined from left to right
+  pub fold : {A : Type 0} → A → (A → A → A) → (Tree → A) → Tree → A
+  fold none join own (column n) = own (column n)
+  fold none join own (literal v) = own (literal v)
+  fold none join own (alias e n) = join (own (alias e n)) (fold none join own e)
+  fold none join own (binary l op r) = join (own (binary l op r)) (join (fold none join own l) (fold none join own r))
+  fold none join own (ternary p a b) = join (own (ternary p a b)) (join (fold none join own p) (join (fold none join own a) (fold none join own b)))
+  fold none join own (cast e k options) = join (own (cast e k options)) (fold none join own e)
+  fold none join own (function es f) = join (own (function es f)) (fold_all none join own es)
+  fold none join own (filter e by) = join (own (filter e by)) (join (fold none join own e) (fold none join own by))
+  fold none join own (slice e offset length) = join (own (slice e offset length)) (join (fold none join own e) (join (fold none join own offset) (fold none join own length)))
+  fold none join own (gather e idx one) = join (own (gather e idx one)) (join (fold none join own e) (fold none join own idx))
+  fold none join own (sort e options) = join (own (sort e options)) (fold none join own e)
+  fold none join own (sort_by e by options) = join (own (sort_by e by options)) (join (fold none join own e) (fold_all none join own by))
+  fold none join own (agg m e) = join (own (agg m e)) (fold none join own e)
+  fold none join own len = own len
+  fold none join own (window f keys order mapping) = join (own (window f keys order mapping)) (join (fold none join own f) (join (fold_all none join own keys) (fold_order none join own order)))
 
-  -- whether each leaf of some expressions is a literal
-  pub are_literal_trees : Trees → Bool
-  are_literal_trees no_trees = true
-  are_literal_trees (one_tree t ts) = is_literal_tree t && are_literal_trees ts
+  -- the same of some expressions
+  pub fold_all : {A : Type 0} → A → (A → A → A) → (Tree → A) → Trees → A
+  fold_all none join own no_trees = none
+  fold_all none join own (one_tree t ts) = join (fold none join own t) (fold_all none join own ts)
 
-  -- whether each leaf of what an order is by is a literal, as it is without an order
-  pub is_literal_order : Order → Bool
-  is_literal_order no_order = true
-  is_literal_order (ordered t options) = is_literal_tree t
+  -- the same of what an order is by
+  pub fold_order : {A : Type 0} → A → (A → A → A) → (Tree → A) → Order → A
+  fold_order none join own no_order = none
+  fold_order none join own (ordered t options) = fold none join own t
 
-abbrev mutual
-  -- whether an Implode stands in an expression
-  pub has_implode : Tree → Bool
-  has_implode (column n) = false
-  has_implode (literal v) = false
-  has_implode (alias e n) = has_implode e
-  has_implode (binary l op r) = has_implode l || has_implode r
-  has_implode (ternary p a b) = has_implode p || (has_implode a || has_implode b)
-  has_implode (cast e k options) = has_implode e
-  has_implode (function es f) = have_implode es
-  has_implode (filter e by) = has_implode e || has_implode by
-  has_implode (slice e offset length) = has_implode e || (has_implode offset || has_implode length)
-  has_implode (gather e idx one) = has_implode e || has_implode idx
-  has_implode (sort e options) = has_implode e
-  has_implode (sort_by e by options) = has_implode e || have_implode by
-  has_implode (agg m e) = is_implode m || has_implode e
-  has_implode len = false
-  has_implode (window f keys order mapping) = has_implode f || (have_implode keys || has_implode_order order)
+-- a node that is no leaf, or a literal
+abbrev pub is_literal_leaf : Tree → Bool
+is_literal_leaf (column n) = false
+is_literal_leaf len = false
+is_literal_leaf _ = true
 
-  -- whether an Implode stands in one of some expressions
-  pub have_implode : Trees → Bool
-  have_implode no_trees = false
-  have_implode (one_tree t ts) = has_implode t || have_implode ts
+-- whether each leaf of an expression is a literal; the length is a leaf and no literal
+abbrev pub is_literal_tree : Tree → Bool
+is_literal_tree t = fold true (λ a b. a && b) is_literal_leaf t
 
-  -- whether an Implode stands in what an order is by
-  pub has_implode_order : Order → Bool
-  has_implode_order no_order = false
-  has_implode_order (ordered t options) = has_implode t
+-- whether each leaf of some expressions is a literal
+abbrev pub are_literal_trees : Trees → Bool
+are_literal_trees ts = fold_all true (λ a b. a && b) is_literal_leaf ts
 
-abbrev mutual
-  -- whether a window stands in an expression
-  pub has_window : Tree → Bool
-  has_window (column n) = false
-  has_window (literal v) = false
-  has_window (alias e n) = has_window e
-  has_window (binary l op r) = has_window l || has_window r
-  has_window (ternary p a b) = has_window p || (has_window a || has_window b)
-  has_window (cast e k options) = has_window e
-  has_window (function es f) = have_window es
-  has_window (filter e by) = has_window e || has_window by
-  has_window (slice e offset length) = has_window e || (has_window offset || has_window length)
-  has_window (gather e idx one) = has_window e || has_window idx
-  has_window (sort e options) = has_window e
-  has_window (sort_by e by options) = has_window e || have_window by
-  has_window (agg m e) = has_window e
-  has_window len = false
-  has_window (window f keys order mapping) = true
+-- whether each leaf of what an order is by is a literal, as it is without an order
+abbrev pub is_literal_order : Order → Bool
+is_literal_order o = fold_order true (λ a b. a && b) is_literal_leaf o
 
-  -- whether a window stands in one of some expressions
-  pub have_window : Trees → Bool
-  have_window no_trees = false
-  have_window (one_tree t ts) = has_window t || have_window ts
+-- an Implode
+abbrev pub is_implode_node : Tree → Bool
+is_implode_node (agg m e) = is_implode m
+is_implode_node _ = false
+
+-- whether an Implode stands in an expression
+abbrev pub has_implode : Tree → Bool
+has_implode t = fold false (λ a b. a || b) is_implode_node t
+
+-- whether an Implode stands in one of some expressions
+abbrev pub have_implode : Trees → Bool
+have_implode ts = fold_all false (λ a b. a || b) is_implode_node ts
+
+-- whether an Implode stands in what an order is by
+abbrev pub has_implode_order : Order → Bool
+has_implode_order o = fold_order false (λ a b. a || b) is_implode_node o
+
+-- a window
+abbrev pub is_window : Tree → Bool
+is_window (window f keys order mapping) = true
+is_window _ = false
+
+-- whether a window stands in an expression
+abbrev pub has_window : Tree → Bool
+has_window t = fold false (λ a b. a || b) is_window t
+
+-- whether a window stands in one of some expressions
+abbrev pub have_window : Trees → Bool
+have_window ts = fold_all false (λ a b. a || b) is_window ts
 
 -- a column and a literal column have their own names, a single value and a range are named literal
 abbrev pub literal_name : Literal → List ℕ

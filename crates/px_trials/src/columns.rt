@@ -61,6 +61,19 @@ fn fives(alloc: Global) -> Px<Column> {
     Column::full(alloc, name, DataType::Int64, Value::Int(5), 3)
 }
 
+// The last row of the longest column, each row of which is 5.
+fn last_five(alloc: Global) -> Px<i128> {
+    let name = Name::new(alloc, "x")?;
+    let column = Column::full(alloc, name, DataType::Int64, Value::Int(5), u32::MAX)?;
+    if column.len() != u32::MAX {
+        return Err(PxError::OutOfBounds);
+    }
+    match column.get(u32::MAX - 1) {
+        Some(ValueRef::Int(value)) => Ok(value),
+        _ => Err(PxError::OutOfBounds),
+    }
+}
+
 fn nulls(alloc: Global) -> Px<Column> {
     Column::full_null(alloc, Name::new(alloc, "x")?, 2, DataType::Int64)
 }
@@ -79,6 +92,32 @@ fn a_value_stands_at_each_row_and_fits(rt: HostRuntime) -> Result<(), Fail> {
     assert_eq!(rt; text.as_str(), "[\"x\"]\n[\"Int64\"]\n[null]\n[null]\n");
     let text = told(alloc, small(alloc))?;
     assert_eq!(rt; text.as_str(), "error: InvalidOperation(Types)\n");
+    assert_eq!(rt; last_five(alloc)?, 5);
+    Ok(())
+}
+
+// The two rows behind the first, and how many rows are viewed behind the last.
+fn viewed(alloc: Global) -> Px<(i128, i128, u32)> {
+    let column = three_rows(alloc)?;
+    if column.len() != 3 {
+        return Err(PxError::OutOfBounds);
+    }
+    let view = column.view(1, 2);
+    if view.len() != 2 {
+        return Err(PxError::OutOfBounds);
+    }
+    match (view.get(0), view.get(1)) {
+        (Some(ValueRef::Int(first)), Some(ValueRef::Int(second))) => {
+            Ok((first, second, column.view(3, 0).len()))
+        }
+        _ => Err(PxError::OutOfBounds),
+    }
+}
+
+#[test]
+fn rows_are_viewed_from_an_offset_on(rt: HostRuntime) -> Result<(), Fail> {
+    let alloc = rt.alloc();
+    assert_eq!(rt; viewed(alloc)?, (5, 6, 0));
     Ok(())
 }
 

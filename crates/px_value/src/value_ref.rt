@@ -63,6 +63,15 @@ pub fn lend(slot: &Option<Value>) -> Option<ValueRef<'_>>
     }
 }
 
+impl Values {
+    /// Equal values, which own their content.
+    pub fn try_clone(&self, alloc: Global) -> Px<Values>
+        ensures { Answers result (Ok self.now) }
+    {
+        copy_values(alloc, self)
+    }
+}
+
 impl ValueRef<'_> {
     /// An equal value, which owns its content.
     pub fn to_value(&self, alloc: Global) -> Px<Value>

@@ -7,11 +7,21 @@ use std::marker::Model;
 /// What windows of the same groups have in common (polars `CacheKey`): the branch of a plan, the columns
 /// that rows are grouped by, and the column that puts the rows of each group in order, with its options.
 /// Seen as these.
-#[derive(Drop)]
 pub struct CacheKey {
     branch: u64,
     keys: Vec<Column>,
     order: Option<(Column, SortOptions)>,
+}
+
+/// One call where a key is let go, so that proofs see no more of what is inside.
+impl Drop for CacheKey {
+    fn drop(self) {
+        let CacheKey {
+            branch: _,
+            keys: _keys,
+            order: _order,
+        } = self;
+    }
 }
 
 impl Model for CacheKey {

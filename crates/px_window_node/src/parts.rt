@@ -1,28 +1,16 @@
 //! The groups of a window.
 ghost use Rattle.std.specs.Prelude.{◌≡◌, ◌+◌, ◌≤◌, IfOk, None, OnOk, map};
-ghost use Rattle.px_column.specs.Prelude.{Answers, AnswersBy};
+ghost use Rattle.px_column.specs.Prelude.{Answers};
 ghost use Rattle.px_frame.specs.CellView.{named_cell};
-ghost use Rattle.px_frame.specs.Spread.{spread_all};
 ghost use Rattle.px_tree.specs.Window.{order_column};
 ghost use Rattle.px_window.specs.Places.{HoldsEachRowOnce};
 ghost use Rattle.px_window_node.specs.Grouped.{order_cell, part_count, window_groups};
 
 use px_column::{Column, Px, SortOptions, Steps};
-use px_frame::{Cell, GroupPositions, spread};
+use px_frame::{Cell, GroupPositions, spread, spread_each};
 use px_window::{CacheKey, ordered_groups};
 use std::alloc::Global;
 use std::sync::ledger::Ledger;
-
-/// Each key as a column of `height` rows.
-fn spread_keys(alloc: Global, keys: Vec<Cell>, height: u32) -> Px<Vec<Column>>
-    ensures { AnswersBy (λ v. v.items) result (spread_all height (map named_cell keys.items)) }
-{
-    let mut columns = Vec::with_capacity(alloc, keys.len())?;
-    for key in keys {
-        columns.push(spread(alloc, key, height)?)?;
-    }
-    Ok(columns)
-}
 
 /// The order as a column of `height` rows, where there is one.
 fn spread_order(
@@ -61,7 +49,7 @@ pub fn window_parts<L: Ledger, M: Ledger>(
     ensures grouped_most { groupings.new ≤ groupings.old + 1 }
     ensures grouped_rises { groupings.old ≤ groupings.new }
 {
-    let by = spread_keys(alloc, keys, height)?;
+    let by = spread_each(alloc, keys, height)?;
     let column = spread_order(alloc, order, height)?;
     let key = CacheKey::new(branch, by, column);
     ordered_groups(alloc, height, &key, kernels, groupings)

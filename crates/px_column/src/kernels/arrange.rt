@@ -1,10 +1,10 @@
 //! The rows of a column in other places: slices, the reverse order, shifts, and one column after another.
-ghost use Rattle.std.specs.Prelude.{◌≡◌, ◌+◌, ◌<◌, ◌≤◌, ◌^◌, ◌++◌, pos, ◌-ℤ◌, Ok, OnOk, OnErr, length, drop, take, true};
+ghost use Rattle.std.specs.Prelude.{◌≡◌, ◌+◌, ◌<◌, ◌≤◌, ◌^◌, pos, ◌-ℤ◌, Ok, OnErr, length, true};
 ghost use Rattle.px_value.specs.Answer.{Answers, AnswersBy};
 ghost use Rattle.px_value.specs.Kind.{slot_fits};
 ghost use Rattle.px_value.specs.LentView.{slot_of_ref};
 ghost use Rattle.px_operation.specs.Function.{clamped, slice_start, slice_stop, slice_window, slot_from};
-ghost use Rattle.px_column.specs.Rows.{joined_column, reverse_column, shift_column, slice_column, with_rows};
+ghost use Rattle.px_column.specs.Rows.{joined_column, reverse_column, shift_column, slice_column};
 ghost use Rattle.px_column.specs.Window.{IsLimit, IsOffset};
 
 use crate::builder::ColumnBuilder;
@@ -78,20 +78,6 @@ impl Column {
         } else {
             self.get(from as u32)
         }
-    }
-
-    /// The rows from the first one on, so many.
-    #[tactic(auto, using(crate::proofs::Placing::window_more, crate::proofs::Placing::window_all))]
-    fn window(&self, alloc: Global, first: u32, count: u32) -> Px<Column>
-        requires there { first + count ≤ length self.now.slots }
-        requires short { first + count < 2 ^ 32 }
-        ensures { Answers result (Ok (with_rows self.now (take count (drop first self.now.slots)))) }
-    {
-        let mut rows = self.builder(alloc, count)?;
-        for row in 0..count {
-            rows.push_ref(self.get(first + row))?;
-        }
-        rows.finish()
     }
 
     /// The rows from an offset on, so many: a negative offset counts from the end, no length is no

@@ -1,5 +1,5 @@
 //! Reductions: all rows of a column become one value.
-ghost use Rattle.std.specs.Prelude.{◌≡◌, ◌+◌, Ok, true};
+ghost use Rattle.std.specs.Prelude.{◌≡◌, ◌+◌, IfOk, Ok, true};
 ghost use Rattle.px_value.specs.Answer.{Answers, AnswersBy};
 ghost use Rattle.px_value.specs.KindView.{kind_of};
 ghost use Rattle.px_operation.specs.Reduce.{is_taken};
@@ -8,9 +8,7 @@ ghost use Rattle.px_value.specs.View.{slot_of};
 
 use crate::builder::ColumnBuilder;
 use crate::column::Column;
-use px_operation::{
-    ImplodeReduce, MaxReduce, MinReduce, Reduce, SumReduce, reduce_rows, reduced_type,
-};
+use px_operation::{ImplodeReduce, MaxReduce, MinReduce, Reduce, reduced_type};
 use px_value::{DataType, GroupByMethod, Px, Steps, Value, copy_slot};
 use std::alloc::Global;
 use std::sync::ledger::Ledger;
@@ -42,12 +40,28 @@ impl Column {
         reduced_type(alloc, method, self.dtype().try_clone(alloc)?)
     }
 
-    /// The reduction of all rows, which a state absorbs one by one.
-    fn reduce_by<R: Reduce + Drop>(&self, alloc: Global) -> Px<Option<Value>>
+    /// The state of all rows, which it absorbs one by one.
+    fn state<R: Reduce + Drop>(&self, alloc: Global) -> Px<R>
+        requires { is_taken R.method self.now.kind ≡ true }
+        ensures answer { AnswersBy (λ _. tt {0}) result (Ok (tt {0})) }
+        ensures state { IfOk result (λ s. R.stands_for s self.now.kind self.now.slots) }
+    {
+        // There are fewer than 2^32 rows.
+        let _ = self.rows();
+        let mut state = R::start(alloc, self.dtype())?;
+        for index in 0..self.len() {
+            state.absorb(self.get(index))?;
+        }
+        Ok(state)
+    }
+
+    /// The reduction of all rows.
+    pub(crate) fn reduce_by<R: Reduce + Drop>(&self, alloc: Global) -> Px<Option<Value>>
         requires { is_taken R.method self.now.kind ≡ true }
         ensures { AnswersBy slot_of result (Ok (reduced_slot R.method self.now.kind self.now.slots)) }
     {
-        reduce_rows::<R>(alloc, self.dtype(), self.items())
+        let state: R = self.state(alloc)?;
+        state.finish()
     }
 
     /// What all rows become. The first and the last row are read in place.
@@ -58,7 +72,7 @@ impl Column {
         match method {
             GroupByMethod::Min => self.reduce_by::<MinReduce>(alloc),
             GroupByMethod::Max => self.reduce_by::<MaxReduce>(alloc),
-            GroupByMethod::Sum => self.reduce_by::<SumReduce>(alloc),
+            GroupByMethod::Sum => self.sum_rows(alloc),
             GroupByMethod::First => copy_slot(alloc, self.get_or_null(0)),
             GroupByMethod::Last => copy_slot(alloc, self.get_or_null(self.len().saturating_sub(1))),
             GroupByMethod::NUnique => Ok(count(self.distinct_count(alloc)?)),

@@ -1,9 +1,11 @@
 //! Reading functions of expressions.
-ghost use Rattle.std.specs.Prelude.{[], ◌∷◌, Some, map, option_and_then, option_map};
+ghost use Rattle.std.specs.Prelude.{[], ◌∷◌, map, option_and_then, option_map};
 ghost use Rattle.serde_json.specs.View.{view};
-ghost use Rattle.px_tree.specs.Tree.{as_explode, by_name, function, no_trees, one_tree, trees_of};
+ghost use Rattle.px_tree.specs.Tree.{as_explode, function, no_trees, one_tree};
 ghost use Rattle.px_tree.specs.View.{tree};
-ghost use Rattle.px_document.specs.ExprForm.{between_of, expr_within, function_parts, shift_of, two_inputs};
+ghost use Rattle.px_document.specs.ExprForm.{call_of, closed_named, expr_within, function_parts, int64_of};
+ghost use Rattle.px_tree.specs.declared.function.FunctionExpr.TheVariants.{IsBetween, Shift};
+ghost use Rattle.serde_json.specs.Find.{as_str};
 ghost use Rattle.px_document.specs.Form.{ReadsBy, items};
 
 use crate::document::expr::{read_input, read_within, share_exprs};
@@ -16,12 +18,21 @@ use serde_json::Value;
 use std::alloc::Global;
 
 /// A function of this kind over these inputs.
-fn call(alloc: Global, kind: FunctionExpr, inputs: Vec<Expr>) -> Result<Expr, DocumentFault>
-    ensures { ReadsBy tree result (Some (function (trees_of (map tree inputs.items)) (by_name kind))) }
+#[cycle(expr)]
+fn read_call(
+    alloc: Global,
+    levels: u32,
+    kind: FunctionExpr,
+    inputs: &[&Value],
+) -> Result<Expr, DocumentFault>
+    ensures { ReadsBy tree result (call_of (expr_within levels) kind (map (λ v. view v.now) inputs.now)) }
 {
-    let input = share_exprs(alloc, inputs)?;
+    let mut exprs = Vec::with_capacity(alloc, inputs.len())?;
+    for input in inputs {
+        exprs.push(read_within(alloc, levels, input)?)?;
+    }
     Ok(Expr::Function {
-        input,
+        input: share_exprs(alloc, exprs)?,
         function: kind,
     })
 }
@@ -45,23 +56,7 @@ fn read_plain_call(
     ensures { ReadsBy tree result (function_parts (expr_within levels) (view name.now ∷ view input.now ∷ [])) }
 {
     let function = read_function_name(name)?;
-    let input = read_within(alloc, levels, input)?;
-    call(alloc, function, vec![in alloc; input]?)
-}
-
-/// Whether the rows of one expression stand among those of another.
-#[cycle(expr)]
-fn read_is_in(
-    alloc: Global,
-    levels: u32,
-    input: &Value,
-    others: &Value,
-) -> Result<Expr, DocumentFault>
-    ensures { ReadsBy tree result (two_inputs (expr_within levels) (view input.now) (view others.now)) }
-{
-    let input = read_within(alloc, levels, input)?;
-    let others = read_within(alloc, levels, others)?;
-    call(alloc, FunctionExpr::IsIn, vec![in alloc; input, others]?)
+    read_call(alloc, levels, function, &[input])
 }
 
 /// The rows of an expression, so many places later.
@@ -72,11 +67,10 @@ fn read_shift(
     periods: &Value,
     input: &Value,
 ) -> Result<Expr, DocumentFault>
-    ensures { ReadsBy tree result (shift_of (expr_within levels) (view periods.now) (view input.now)) }
+    ensures { ReadsBy tree result (option_and_then (λ periods. call_of (expr_within levels) (Shift periods) (view input.now ∷ [])) (int64_of (view periods.now))) }
 {
     let periods = read_int64(periods)?;
-    let input = read_within(alloc, levels, input)?;
-    call(alloc, FunctionExpr::Shift(periods), vec![in alloc; input]?)
+    read_call(alloc, levels, FunctionExpr::Shift(periods), &[input])
 }
 
 /// Whether the rows of one expression lie between those of two others.
@@ -89,14 +83,15 @@ fn read_is_between(
     low: &Value,
     high: &Value,
 ) -> Result<Expr, DocumentFault>
-    ensures { ReadsBy tree result (between_of (expr_within levels) (view closed.now) (view input.now) (view low.now) (view high.now)) }
+    ensures { ReadsBy tree result (option_and_then (λ ends. call_of (expr_within levels) (IsBetween ends) (view input.now ∷ view low.now ∷ view high.now ∷ [])) (option_and_then closed_named (as_str (view closed.now)))) }
 {
     let closed = read_closed(closed)?;
-    let input = read_within(alloc, levels, input)?;
-    let low = read_within(alloc, levels, low)?;
-    let high = read_within(alloc, levels, high)?;
-    let inputs = vec![in alloc; input, low, high]?;
-    call(alloc, FunctionExpr::IsBetween { closed }, inputs)
+    read_call(
+        alloc,
+        levels,
+        FunctionExpr::IsBetween { closed },
+        &[input, low, high],
+    )
 }
 
 /// A function and its inputs: `[text, e]`, `["IsIn", e, e]`, `["Shift", integer, e]` or
@@ -112,7 +107,7 @@ pub(crate) fn read_function(
     match items(value) {
         Some([name, input]) => read_plain_call(alloc, levels, name, input),
         Some([name, input, others]) if is_text("IsIn", name) => {
-            read_is_in(alloc, levels, input, others)
+            read_call(alloc, levels, FunctionExpr::IsIn, &[input, others])
         }
         Some([name, periods, input]) if is_text("Shift", name) => {
             read_shift(alloc, levels, periods, input)

@@ -77,7 +77,7 @@ fn read_list(alloc: Global, of: &DataType, value: &Value) -> Result<Datum, Docum
 
 /// Each of these a place of the type.
 #[cycle(place)]
-pub(crate) fn read_places(
+fn read_places(
     alloc: Global,
     dtype: &DataType,
     values: &[Value],

@@ -1,17 +1,20 @@
-use Rattle.std.proofs.Common.{rules, ◌+◌, ◌-◌, length, map, ◌≡◌, ◌∙◌, ◌++◌, ◌⊎◌, [], ◌∷◌, Err, Ok, IfOk, IfErr, OnOk, List, ap, refl, subst, sym}
+use Rattle.std.proofs.Common.{rules, Bool, ◌+◌, ◌-◌, length, map, ◌≡◌, ◌∙◌, ◌++◌, ◌⊎◌, [], ◌∷◌, Err, Ok, IfOk, IfErr, OnOk, List, ap, refl, subst, sym}
 use Rattle.std.proofs.lemmas.Result.{err_from_is_err_and}
 use Rattle.px_value.specs.Answer.{Answers}
 use Rattle.px_window.specs.State.{beside}
 use Rattle.px_tree.specs.Partition.{is_row_function}
-use Rattle.px_tree.specs.Shape.{has_implode}
+use Rattle.px_tree.specs.Shape.{has_implode, is_literal_tree}
 use Rattle.px_tree.specs.Tree.{called}
 use Rattle.px_tree.specs.Typing.{grouped_reduction_refusals, implode_refusal, or_first, scalar_refusal}
 use Rattle.px_group_nodes.specs.Function.{IsApplied, function_answers, function_type}
 use Rattle.px_context.specs.Built.{renamed}
+use Rattle.px_group_nodes.specs.Gather.{IsGathered, gather_answers, gathered_kind}
 use Rattle.px_group_nodes.specs.Made.{IsRefusal, counts_in}
+use Rattle.px_context.specs.Context.{Context}
+use Rattle.px_value.specs.declared.error.PxError.{PxError}
 use Rattle.px_group_nodes.specs.SortBy.{sort_by_answers, sort_by_kind}
 use Rattle.px_answers.specs.Counted.{RunAllExactly, RunExactly}
-use Rattle.px_answers.specs.Parts.{PlannedApply, PlannedSortBy, filter_plan, gather_plan, plan_trees, slice_plan, sort_by_plan, sort_plan}
+use Rattle.px_answers.specs.Parts.{PlannedApply, PlannedGather, PlannedSortBy, filter_plan, gather_plan, plan_trees, slice_plan, sort_by_plan, sort_plan}
 use Rattle.px_answers.specs.Planned.{Planned}
 use Rattle.px_group_answers.proofs.ContextsInOrder.{all_contexts, next_cause, next_context, next_cost}
 use Rattle.px_group_answers.proofs.GroupCounts.{alias_group_cost, apply_group_cost, apply_group_cost_inputs, apply_group_ticks_told, binary_group_cost, binary_group_cost_inputs, binary_group_cost_left, binary_group_ticks_told, cast_group_cost, cast_group_cost_input, cast_group_ticks_told, none_run, reduction_group_cost, reduction_group_cost_input, reduction_group_ticks_told, sort_by_group_cost, ternary_group_cost, ternary_group_cost_first, ternary_group_cost_inputs, ternary_group_cost_second, ternary_group_ticks_told, unflat_one, unflat_one_input, unflat_three, unflat_three_first, unflat_three_inputs, unflat_three_second, unflat_ticks_told, unflat_two, unflat_two_first, unflat_two_inputs}
@@ -265,14 +268,29 @@ gather::GatherExprPhysicalExpr::evaluate_on_groups-returns-clause-context t g c 
     let x : IsContextOf c.args.self.now.phys_expr (beside c.args.df.now c.args.state.now) c.args.groups.now c.in_ok-input.input = search rules in
     let y : IsContextOf c.args.self.now.idx (beside c.args.df.now c.args.state.now) c.args.groups.now c.in_ok-idx.idx = search rules in
     let a : scalar_refusal c.args.self.now.phys_expr.tree ≡ [] = search rules in
-    gather_context c.args.self.now (beside c.args.df.now c.args.state.now) c.args.groups.now c.in_ok-input.input c.in_ok-idx.idx x y a c.gather_groups.result (search rules) (search rules)
+    let one = ap (λ (p : PlannedGather). p.returns_scalar) c.self.view_is in
+    let idx : plan_of c.deref-4.result.now ≡ c.args.self.now.idx = search rules in
+    let literals = c.has_literals_alone-is_literal.ensures ∙ ap (λ (p : Planned). is_literal_tree p.tree) idx in
+    gather_context c.args.self.now (beside c.args.df.now c.args.state.now) c.args.groups.now c.in_ok-input.input c.in_ok-idx.idx x y a c.gather_groups.result
+    (subst (λ (b : Bool). IfOk c.gather_groups.result (IsGathered b (is_literal_tree c.args.self.now.idx.tree) c.in_ok-input.input c.in_ok-idx.idx)) one
+    (subst (λ (b : Bool). IfOk c.gather_groups.result (IsGathered c.self.inside.returns_scalar b c.in_ok-input.input c.in_ok-idx.idx)) literals c.gather_groups.ensures.made))
+    (search rules)
+
+-- why a gather's answer may be refused
+abbrev GatherRefusal : Bool → Bool → Context → Context → PxError → Type 0
+GatherRefusal one literals x y e = (gathered_kind one x y ≡ Err e) ⊎ IsRefusal e (gather_answers one literals x y) (counts_in (gather_answers one literals x y))
 
 pub gather::GatherExprPhysicalExpr::evaluate_on_groups-returns-clause-causes : goal.gather::GatherExprPhysicalExpr::evaluate_on_groups-returns-clause-causes
 gather::GatherExprPhysicalExpr::evaluate_on_groups-returns-clause-causes t g c =
     let x : IsContextOf c.args.self.now.phys_expr (beside c.args.df.now c.args.state.now) c.args.groups.now c.in_ok-input.input = search rules in
     let y : IsContextOf c.args.self.now.idx (beside c.args.df.now c.args.state.now) c.args.groups.now c.in_ok-idx.idx = search rules in
     let a : scalar_refusal c.args.self.now.phys_expr.tree ≡ [] = search rules in
-    gather_refused c.args.self.now (beside c.args.df.now c.args.state.now) c.args.groups.now c.in_ok-input.input c.in_ok-idx.idx x y a c.gather_groups.result (search rules)
+    let one = ap (λ (p : PlannedGather). p.returns_scalar) c.self.view_is in
+    let idx : plan_of c.deref-4.result.now ≡ c.args.self.now.idx = search rules in
+    let literals = c.has_literals_alone-is_literal.ensures ∙ ap (λ (p : Planned). is_literal_tree p.tree) idx in
+    gather_refused c.args.self.now (beside c.args.df.now c.args.state.now) c.args.groups.now c.in_ok-input.input c.in_ok-idx.idx x y a c.gather_groups.result
+    (subst (λ (b : Bool). IfErr c.gather_groups.result (GatherRefusal b (is_literal_tree c.args.self.now.idx.tree) c.in_ok-input.input c.in_ok-idx.idx)) one
+    (subst (λ (b : Bool). IfErr c.gather_groups.result (GatherRefusal c.self.inside.returns_scalar b c.in_ok-input.input c.in_ok-idx.idx)) literals c.gather_groups.ensures.refused))
 
 pub gather::GatherExprPhysicalExpr::evaluate_on_groups-returns-clause-cost : goal.gather::GatherExprPhysicalExpr::evaluate_on_groups-returns-clause-cost
 gather::GatherExprPhysicalExpr::evaluate_on_groups-returns-clause-cost t g c =

@@ -37,8 +37,8 @@ decreases-function::read_explode l = 6 * l.levels + 2
 abbrev pub decreases-function::read_plain_call : goal.decreases-function::read_plain_call
 decreases-function::read_plain_call l = 6 * l.levels + 2
 
-abbrev pub decreases-function::read_is_in : goal.decreases-function::read_is_in
-decreases-function::read_is_in l = 6 * l.levels + 2
+abbrev pub decreases-function::read_call : goal.decreases-function::read_call
+decreases-function::read_call l = 6 * l.levels + 1
 
 abbrev pub decreases-function::read_shift : goal.decreases-function::read_shift
 decreases-function::read_shift l = 6 * l.levels + 2
@@ -85,3 +85,6 @@ decreases-expr::read_form l = 6 * l.levels + 4
 -- what was read and what is left are all
 abbrev pub invariant-expr::read_list-loop-value : goal.invariant-expr::read_list-loop-value
 invariant-expr::read_list-loop-value l = with_front (map tree l.exprs.items) (each (expr_within l.levels) (map view (drop l.value-index l.values))) ≡ each (expr_within l.levels) (map view l.values)
+
+abbrev pub invariant-function::read_call-loop-input : goal.invariant-function::read_call-loop-input
+invariant-function::read_call-loop-input l = with_front (map tree l.exprs.items) (each (expr_within l.levels) (map (λ v. view v.now) (drop l.input-index l.inputs))) ≡ each (expr_within l.levels) (map (λ v. view v.now) l.inputs)

@@ -6,9 +6,18 @@ use Rattle.px_frame.specs.CellView.{named_cell}
 use Rattle.px_frame.specs.Spread.{column_of_cell}
 use Rattle.px_nodes.specs.Named.{ternary_named}
 use Rattle.px_nodes.specs.Together.{are_three_beside, are_three_units}
-use Rattle.px_nodes.proofs.Answering.{made_cell}
-use Rattle.px_nodes.proofs.Operated.{ternary_made}
+use Rattle.px_nodes.proofs.Answering.{made_cell, made_row}
+use Rattle.px_nodes.proofs.Operated.{ternary_made, ternary_one}
 use Rattle.px_nodes.proofs.ternary.ternary_cells.Goals as goal
+
+pub into_cell-requires : goal.into_cell-requires
+into_cell-requires g c =
+    let p = named_cell c.args.predicate in
+    let a = named_cell c.args.truthy in
+    let b = named_cell c.args.falsy in
+    made_row c.zip_with.result c.are_three_units-is_unit.result (are_three_units p.cell a.cell b.cell)
+    (chosen_column c.as_column-mask.result.now c.as_column-x.result.now c.as_column-y.result.now) (chosen_column (column_of_cell p) (column_of_cell a) (column_of_cell b))
+    c.are_three_units-is_unit.ensures (λ i. chosen_column (c.as_column-mask.ensures i) (c.as_column-x.ensures i) (c.as_column-y.ensures i)) c.zip_with.ensures.answer (ternary_one p a b)
 
 pub returns-clause-answer : goal.returns-clause-answer
 returns-clause-answer g c =

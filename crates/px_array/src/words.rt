@@ -1,0 +1,54 @@
+//! Truths packed in words: bit i of word j belongs to place 64 j + i.
+ghost use Rattle.std.specs.Prelude.{◌≡◌, ◌≢◌, ◌*◌, ◌<◌, ◌≤◌, ℕ, Ok, OnOk, length, true, false, vec_len};
+ghost use Rattle.px_array.specs.Words.{word_bit};
+ghost use Rattle.px_value.specs.Answer.{Answers};
+
+use px_value::Px;
+
+/// Whether the bit of a place is set.
+#[inline(always)]
+pub(crate) fn bit(words: &[u64], i: usize) -> bool
+    requires { i < 64 * length words.now }
+    ensures { result ≡ word_bit words.now i }
+{
+    (words[i / 64] >> (i % 64)) & 1 == 1
+}
+
+/// Sets the bit of a place.
+#[inline(always)]
+pub(crate) fn set_bit(words: &mut [u64], i: usize)
+    requires { i < 64 * length words.old }
+    ensures here { word_bit words.new i ≡ true }
+    ensures others { (k : ℕ) → k ≢ i → word_bit words.new k ≡ word_bit words.old k }
+{
+    words[i / 64] |= 1 << (i % 64);
+}
+
+/// A word more, with no bit set, where the place has none.
+#[inline(always)]
+pub(crate) fn make_room(words: &mut Vec<u64>, i: usize) -> Px<()>
+    requires { i ≤ 64 * vec_len words.old }
+    ensures answer { Answers result (Ok tt) }
+    ensures room { OnOk result (i < 64 * vec_len words.new) }
+    ensures covers { i ≤ 64 * vec_len words.new }
+    ensures same { (k : ℕ) → word_bit words.new.items k ≡ word_bit words.old.items k }
+{
+    if i / 64 == words.len() {
+        words.push(0)?;
+    }
+    Ok(())
+}
+
+/// Gives a place, whose bit is not set, this truth.
+#[inline(always)]
+pub(crate) fn put_bit(words: &mut Vec<u64>, i: usize, set: bool)
+    requires within { i < 64 * vec_len words.old }
+    requires clear { word_bit words.old.items i ≡ false }
+    ensures here { word_bit words.new.items i ≡ set }
+    ensures others { (k : ℕ) → k ≢ i → word_bit words.new.items k ≡ word_bit words.old.items k }
+    ensures len { vec_len words.new ≡ vec_len words.old }
+{
+    if set {
+        set_bit(words, i);
+    }
+}

@@ -1,7 +1,0 @@
-use Rattle.std.proofs.Common.{◌≡◌}
-use Rattle.px_frame.specs.Frame.{look}
-use Rattle.px_expr.proofs.Externals.{columns_from}
-use Rattle.px_expr.proofs.column.column_among.Given as goal
-
-abbrev pub invariant-loop-frame : goal.invariant-loop-frame
-invariant-loop-frame l = look l.name (columns_from l.frames 0) ≡ look l.name (columns_from l.frames l.frame-index)
