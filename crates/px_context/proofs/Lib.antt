@@ -8,4 +8,3 @@ pub mod Counting
 pub mod Sameness
 pub mod Renaming
 pub mod Picking
-mod Windows
