@@ -1,5 +1,5 @@
 -- What integers that are lent stand for.
-use Rattle.std.specs.Prelude.{ℕ, ◌*◌, ◌^◌, ◌≤◌, ◌<◌, ℤ, pos, neg_ℤ, ◌≤ℤ◌, List, length}
+use Rattle.std.specs.Prelude.{ℕ, ◌*◌, ◌^◌, ◌≤◌, ◌<◌, ℤ, pos, neg_ℤ, ◌≤ℤ◌, ◌<ℤ◌, List, length}
 use Rattle.px_value.specs.Datum.{Slot}
 use Rattle.px_array.specs.Lanes.{int_slot, uint_slot}
 use Rattle.px_array.specs.declared.integers.Numbers.{Numbers}
@@ -24,4 +24,4 @@ pub record IsLent (numbers : Numbers) (ws : List ℕ) (n : ℕ) : Type 0 where
 -- a number of 64 bits, with or without a sign
 pub record IsNumber (z : ℤ) : Type 0 where
   pub low : neg_ℤ (pos (2 ^ 63)) ≤ℤ z
-  pub high : z ≤ℤ pos (2 ^ 64)
+  pub high : z <ℤ pos (2 ^ 64)

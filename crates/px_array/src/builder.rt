@@ -11,6 +11,7 @@ use crate::filling::{add, add_ref};
 use crate::lanes::{Store, no_values};
 use crate::words::{make_room, put_bit};
 use px_value::{DataType, Px, Value, ValueRef};
+use smallvec::SmallVec;
 use std::alloc::Global;
 use std::marker::Model;
 use std::rc::Rc;
@@ -54,7 +55,7 @@ impl ArrayBuilder {
         ensures { Answers result (Ok (record { kind = kind_of dtype; slots = [] })) }
     {
         let lanes = no_values(alloc, &dtype, capacity)?;
-        let valid = Vec::with_capacity(alloc, capacity as usize / 64 + 1)?;
+        let valid = SmallVec::with_capacity(alloc, capacity as usize / 64 + 1)?;
         let store = Store {
             lanes,
             valid,

@@ -12,10 +12,11 @@ ghost use Rattle.px_value.specs.View.{slot_of};
 use crate::lanes::{Lanes, bytes_of, list_of, signed, text_of, truth, unsigned};
 use crate::words::{bit, make_room, set_bit};
 use px_value::{ByteString, DataType, Name, Px, Value, ValueRef, Values, lend};
+use smallvec::SmallVec;
 use std::alloc::Global;
 
 /// One truth more.
-fn add_truth(words: &mut Vec<u64>, len: u32, set: bool) -> Px<()>
+fn add_truth(words: &mut SmallVec<u64, 1>, len: u32, set: bool) -> Px<()>
     requires { IsWords words.old.items len }
     ensures answer { Answers result (Ok tt) }
     ensures words { IsWords words.new.items (if is_ok result then len + 1 else len) }

@@ -8,6 +8,7 @@ ghost use Rattle.px_value.specs.KindView.{kind_of};
 ghost use Rattle.px_value.specs.LentView.{slot_of_ref};
 
 use px_value::{ByteString, DataType, Name, Px, ValueRef, Values};
+use smallvec::SmallVec;
 use std::alloc::Global;
 
 /// Values of one type, one for each place; any where the place is a null.
@@ -15,18 +16,18 @@ use std::alloc::Global;
 pub(crate) enum Lanes {
     Ints(Vec<i64>),
     UInts(Vec<u64>),
-    Bools(Vec<u64>),
+    Bools(SmallVec<u64, 1>),
     Texts(Vec<Name>),
     Bytes(Vec<ByteString>),
     Lists(Vec<Values>),
     Nulls,
 }
 
-/// Values of one type, with the bits of their validity.
+/// Values of one type, with the bits of their validity; those of few places take no allocation.
 #[derive(Drop)]
 pub(crate) struct Store {
     pub(crate) lanes: Lanes,
-    pub(crate) valid: Vec<u64>,
+    pub(crate) valid: SmallVec<u64, 1>,
     pub(crate) len: u32,
 }
 
@@ -44,7 +45,7 @@ pub(crate) fn no_values(alloc: Global, dtype: &DataType, capacity: u32) -> Px<La
         DataType::UInt8 | DataType::UInt16 | DataType::UInt32 | DataType::UInt64 => {
             Ok(Lanes::UInts(Vec::with_capacity(alloc, count)?))
         }
-        DataType::Boolean => Ok(Lanes::Bools(Vec::with_capacity(alloc, count / 64 + 1)?)),
+        DataType::Boolean => Ok(Lanes::Bools(SmallVec::with_capacity(alloc, count / 64 + 1)?)),
         DataType::String => Ok(Lanes::Texts(Vec::with_capacity(alloc, count)?)),
         DataType::Binary => Ok(Lanes::Bytes(Vec::with_capacity(alloc, count)?)),
         DataType::List(_) => Ok(Lanes::Lists(Vec::with_capacity(alloc, count)?)),

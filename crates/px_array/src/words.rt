@@ -1,9 +1,11 @@
 //! Truths packed in words: bit i of word j belongs to place 64 j + i.
-ghost use Rattle.std.specs.Prelude.{◌≡◌, ◌≢◌, ◌*◌, ◌<◌, ◌≤◌, ℕ, Ok, OnOk, length, true, false, vec_len};
+ghost use Rattle.std.specs.Prelude.{◌≡◌, ◌≢◌, ◌*◌, ◌<◌, ◌≤◌, ℕ, Ok, OnOk, length, true, false};
+ghost use Rattle.smallvec.specs.SmallVec.{small_vec_len};
 ghost use Rattle.px_array.specs.Words.{word_bit};
 ghost use Rattle.px_value.specs.Answer.{Answers};
 
 use px_value::Px;
+use smallvec::SmallVec;
 
 /// Whether the bit of a place is set.
 #[inline(always)]
@@ -26,11 +28,11 @@ pub(crate) fn set_bit(words: &mut [u64], i: usize)
 
 /// A word more, with no bit set, where the place has none.
 #[inline(always)]
-pub(crate) fn make_room(words: &mut Vec<u64>, i: usize) -> Px<()>
-    requires { i ≤ 64 * vec_len words.old }
+pub(crate) fn make_room(words: &mut SmallVec<u64, 1>, i: usize) -> Px<()>
+    requires { i ≤ 64 * small_vec_len words.old }
     ensures answer { Answers result (Ok tt) }
-    ensures room { OnOk result (i < 64 * vec_len words.new) }
-    ensures covers { i ≤ 64 * vec_len words.new }
+    ensures room { OnOk result (i < 64 * small_vec_len words.new) }
+    ensures covers { i ≤ 64 * small_vec_len words.new }
     ensures same { (k : ℕ) → word_bit words.new.items k ≡ word_bit words.old.items k }
 {
     if i / 64 == words.len() {
@@ -41,12 +43,12 @@ pub(crate) fn make_room(words: &mut Vec<u64>, i: usize) -> Px<()>
 
 /// Gives a place, whose bit is not set, this truth.
 #[inline(always)]
-pub(crate) fn put_bit(words: &mut Vec<u64>, i: usize, set: bool)
-    requires within { i < 64 * vec_len words.old }
+pub(crate) fn put_bit(words: &mut SmallVec<u64, 1>, i: usize, set: bool)
+    requires within { i < 64 * small_vec_len words.old }
     requires clear { word_bit words.old.items i ≡ false }
     ensures here { word_bit words.new.items i ≡ set }
     ensures others { (k : ℕ) → k ≢ i → word_bit words.new.items k ≡ word_bit words.old.items k }
-    ensures len { vec_len words.new ≡ vec_len words.old }
+    ensures len { small_vec_len words.new ≡ small_vec_len words.old }
 {
     if set {
         set_bit(words, i);

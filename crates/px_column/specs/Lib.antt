@@ -1,4 +1,5 @@
 pub mod Key
+pub mod NumberKey
 pub mod Column
 pub mod Repeat
 pub mod Beside
@@ -34,3 +35,4 @@ pub use Rattle.px_operation.specs.Operator
 pub use Rattle.px_operation.specs.Cast
 pub use Rattle.px_operation.specs.Function
 pub use Rattle.px_operation.specs.Operate
+pub use Rattle.px_array.specs.Integers

@@ -1,5 +1,5 @@
 //! A column: a name and a typed array of optional values.
-ghost use Rattle.std.specs.Prelude.{◌≡◌, ◌+◌, ◌<◌, ◌≤◌, ◌==◌, ◌^◌, Ok, length, drop, take, vec_len, true};
+ghost use Rattle.std.specs.Prelude.{◌≡◌, ◌+◌, ◌<◌, ◌≤◌, ◌==◌, ◌^◌, IfSome, Ok, length, drop, take, vec_len, true};
 ghost use Rattle.px_value.specs.Answer.{Answers};
 ghost use Rattle.px_column.specs.Column.{made};
 ghost use Rattle.px_value.specs.Kind.{slots_fit, slot_fits};
@@ -9,7 +9,7 @@ ghost use Rattle.px_value.specs.Series.{slot_at};
 ghost use Rattle.px_value.specs.View.{slots_of};
 
 use crate::builder::ColumnBuilder;
-use px_array::{Array, Rows};
+use px_array::{Array, Integers, Rows};
 use px_value::{DataType, InvalidWhy, Name, Px, PxError, Value, ValueRef, lend, slot_fits};
 use std::alloc::Global;
 use std::marker::Model;
@@ -121,6 +121,13 @@ impl Column {
         ensures short { length self.now.slots < 2 ^ 32 }
     {
         self.array.rows()
+    }
+
+    /// The rows as integers, where they stand in memory as such; else `None`.
+    pub fn integers(&self) -> Option<Integers<'_>>
+        ensures { IfSome result (λ v. v ≡ self.now.slots) }
+    {
+        self.array.integers()
     }
 
     /// So many rows from an offset on, all of which are there; they share the values.

@@ -4,6 +4,7 @@
 mod builder;
 mod column;
 mod kernels;
+mod number_key;
 mod reading;
 mod repeat;
 mod row_by_row;
@@ -14,7 +15,8 @@ mod view;
 pub use builder::ColumnBuilder;
 pub use column::Column;
 pub use kernels::{prepare_bool_vec, slice_window};
-pub use px_array::Rows;
+pub use number_key::NumberKey;
+pub use px_array::{Integers, Rows};
 pub use px_operation::{
     cast_type, is_boolean, is_cast, is_integer, operator_type, reduced_type, same_type, sum_type,
     type_where, wrap_sum,

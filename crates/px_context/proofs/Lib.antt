@@ -8,3 +8,4 @@ pub mod Counting
 pub mod Sameness
 pub mod Renaming
 pub mod Picking
+mod Windows

@@ -1,5 +1,6 @@
 //! The cell of one group, lent.
-ghost use Rattle.std.specs.Prelude.{◌≡◌, ◌<◌, ◌^◌, Ok, length, true};
+ghost use Rattle.std.specs.Prelude.{◌≡◌, ◌+◌, ◌<◌, ◌≤◌, ◌^◌, IfSome, Ok, drop, length, take, true};
+ghost use Rattle.std.specs.List.{range_with_len};
 ghost use Rattle.px_column.specs.Prelude.{Answers, kind_of, slot_at, slot_fits, slot_of_ref, slots_fit};
 ghost use Rattle.px_frame.specs.Cell.{unit, rows, count_of, list_of};
 ghost use Rattle.px_frame.specs.Frame.{are_below, slots_at};
@@ -43,6 +44,21 @@ impl<'b> Model for GroupPiece<'b> {
     ghost view = { λ p. part_of p.source };
 
     ghost invariant = { λ p. IsPiece p.source };
+}
+
+/// The first row of a group of rows that stand one after another.
+fn first_of(group: GroupsIndicator<'_>) -> Option<u32>
+    requires { is_group (2 ^ 32) (lent_group group) ≡ true }
+    ensures some { IfSome result (λ a. 0 < length (lent_group group.entry).rows) }
+    ensures rows { IfSome result (λ a. (lent_group group.entry).rows ≡ range_with_len a (length (lent_group group.entry).rows)) }
+{
+    match group {
+        GroupsIndicator::Idx(_, rows) => match rows.as_slice() {
+            [row] => Some(*row),
+            _ => None,
+        },
+        GroupsIndicator::Slice(range) => if range[1] == 0 { None } else { Some(range[0]) },
+    }
 }
 
 impl<'b> GroupPiece<'b> {
@@ -131,8 +147,22 @@ impl<'b> GroupPiece<'b> {
         }
     }
 
-    /// The values as a column of this name.
-    pub fn to_column(&self, alloc: Global, name: Name) -> Px<Column>
+    /// A column in which the values stand one after another, and from which row on, where they do.
+    fn window(&self) -> Option<(&'b Column, u32)>
+        ensures kind { IfSome result (λ w. w.0.now.kind ≡ self.now.kind) }
+        ensures within { IfSome result (λ w. w.1 + count_of self.now.cell ≤ length w.0.now.slots) }
+        ensures same { IfSome result (λ w. take (count_of self.now.cell) (drop w.1 w.0.now.slots) ≡ list_of self.now.cell) }
+    {
+        match self.source {
+            Source::Rows(column, group) => Some((column, first_of(group)?)),
+            Source::Items(_, _) => None,
+            Source::Whole(column) => Some((column, 0)),
+            Source::Single(column, row) => Some((column, row)),
+        }
+    }
+
+    /// The values as a column of this name, copied.
+    fn copy_values(&self, alloc: Global, name: Name) -> Px<Column>
         ensures { Answers result (Ok (record { name = name; kind = self.now.kind; slots = list_of self.now.cell })) }
     {
         let dtype = self.dtype().try_clone(alloc)?;
@@ -141,5 +171,19 @@ impl<'b> GroupPiece<'b> {
             rows.push_ref(self.get(index))?;
         }
         rows.finish()
+    }
+
+    /// The values as a column of this name, which shares them where they stand one after another in a
+    /// column.
+    pub fn to_column(&self, alloc: Global, name: Name) -> Px<Column>
+        ensures { Answers result (Ok (record { name = name; kind = self.now.kind; slots = list_of self.now.cell })) }
+    {
+        match self.window() {
+            None => self.copy_values(alloc, name),
+            Some((column, first)) => {
+                let window = column.window(alloc, first, self.len())?;
+                Ok(window.with_name(name))
+            }
+        }
     }
 }

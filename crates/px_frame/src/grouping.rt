@@ -1,8 +1,9 @@
 //! Rows grouped by equal keys, through a table of the keys seen so far (polars `group_by` with
 //! `maintain_order`).
-ghost use Rattle.std.specs.Prelude.{◌≡◌, ◌+◌, Ok, IfOk, OnOk, length, map, true, vec_len};
+ghost use Rattle.std.specs.Prelude.{◌≡◌, ◌+◌, ◌<◌, ◌≤◌, ◌∷◌, [], Ok, IfOk, IfSome, OnOk, length, map, true, vec_len};
 ghost use Rattle.std.specs.List.{IsDistinct, list_all, list_any};
 ghost use Rattle.px_column.specs.Prelude.{Answers};
+ghost use Rattle.px_column.specs.Series.{slot_at};
 ghost use Rattle.px_frame.specs.Aggregate.{has_row};
 ghost use Rattle.px_frame.specs.Enter.{entered, AreStarted};
 ghost use Rattle.px_frame.specs.Groups.{groups_by, grouped, is_list};
@@ -11,7 +12,7 @@ ghost use Rattle.px_frame.specs.Parts.{with_key};
 use crate::frame::all_have_height;
 use crate::groups::{GroupPositions, IdxVec};
 use indexmap::IndexSet;
-use px_column::{Column, ComputeWhy, InvalidWhy, Px, PxError, RowKey, Steps};
+use px_column::{Column, ComputeWhy, Integers, InvalidWhy, NumberKey, Px, PxError, RowKey, Steps};
 use smallvec::SmallVec;
 use std::alloc::Global;
 use std::hash::Hash;
@@ -46,8 +47,42 @@ fn enter<K: Eq + Hash + Drop>(
     }
 }
 
+/// The key of a row in a column of integers.
+fn number_key_at(integers: &Integers<'_>, row: u32) -> NumberKey
+    requires { row < length integers.now }
+    ensures { result ≡ slot_at integers.now row ∷ [] }
+{
+    NumberKey::new(integers.get(row))
+}
+
+/// The groups of the first `len` rows by the integers in a column, through a table of those seen so far.
+fn group_integers(
+    alloc: Global,
+    len: u32,
+    key: &Column,
+    integers: &Integers<'_>,
+) -> Px<GroupPositions>
+    requires integers { integers.now ≡ key.now.slots }
+    requires short { len ≤ length key.now.slots }
+    ensures groups { Answers result (Ok (groups_by (key.now ∷ []) len)) }
+    ensures rows { IfOk result (λ g. list_all has_row g.groups ≡ true) }
+{
+    let mut seen: IndexSet<NumberKey> = IndexSet::new(alloc);
+    let mut groups: Vec<(u32, IdxVec)> = Vec::new(alloc);
+    for row in 0..len {
+        enter(
+            alloc,
+            &mut seen,
+            &mut groups,
+            number_key_at(integers, row),
+            row,
+        )?;
+    }
+    Ok(GroupPositions::from_rows(groups, len))
+}
+
 /// The groups of the rows by the keys in these columns, through a table of the keys seen so far.
-fn group_rows(alloc: Global, height: u32, by: &[Column]) -> Px<GroupPositions>
+fn group_keys(alloc: Global, height: u32, by: &[Column]) -> Px<GroupPositions>
     ensures groups { Answers result (Ok (groups_by by.now height)) }
     ensures rows { IfOk result (λ g. list_all has_row g.groups ≡ true) }
 {
@@ -68,6 +103,31 @@ fn any_is_list(by: &[Column]) -> bool
         }
     }
     false
+}
+
+/// The integers of these columns, where there is one column of so many, which stand in memory as such.
+fn key_integers(height: u32, by: &[Column]) -> Option<(&Column, Integers<'_>)>
+    ensures { IfSome result (λ k. (by.now ≡ k.0.now ∷ []) × (k.1 ≡ k.0.now.slots) × (length k.0.now.slots ≡ height)) }
+{
+    match by {
+        [key] => if key.len() == height {
+            Some((key, key.integers()?))
+        } else {
+            None
+        },
+        _ => None,
+    }
+}
+
+/// The groups of the rows by the keys in these columns: by integers where there is one column of them.
+fn group_rows(alloc: Global, height: u32, by: &[Column]) -> Px<GroupPositions>
+    ensures groups { Answers result (Ok (groups_by by.now height)) }
+    ensures rows { IfOk result (λ g. list_all has_row g.groups ≡ true) }
+{
+    match key_integers(height, by) {
+        Some((key, integers)) => group_integers(alloc, height, key, &integers),
+        None => group_keys(alloc, height, by),
+    }
 }
 
 /// The rows grouped by equal keys, a null being the same as a null: the groups in order of first

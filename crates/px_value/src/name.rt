@@ -3,26 +3,30 @@ ghost use Rattle.std.specs.Prelude.{◌≡◌};
 ghost use Rattle.px_value.specs.Answer.{Answers};
 
 use crate::error::Px;
+use smallvec::SmallVec;
 use std::alloc::Global;
-use std::fmt;
 use std::hash::{Hash, Hasher};
 use std::marker::Model;
+use std::{fmt, str};
 
-/// The name of a column, or another text; seen as its UTF-8 bytes.
+/// The name of a column, or another text (polars `PlSmallStr`); seen as its UTF-8 bytes, of which up to
+/// 16 take no allocation.
 #[derive(Drop)]
 pub struct Name {
-    text: String,
+    bytes: SmallVec<u8, 16>,
 }
 
 impl Model for Name {
-    ghost use Rattle.std.specs.Prelude.{List, ℕ, string_bytes};
+    ghost use Rattle.std.specs.Prelude.{List, ℕ, IsUtf8};
     ghost use Rattle.std.specs.Coded.{coded_list, coded_ℕ};
 
     ghost Value = { List ℕ };
 
     ghost coded = { coded_list coded_ℕ };
 
-    ghost view = { λ n. string_bytes n.text };
+    ghost view = { λ n. n.bytes.items };
+
+    ghost invariant = { λ n. IsUtf8 n.bytes.items };
 }
 
 impl Name {
@@ -33,7 +37,7 @@ impl Name {
         ensures { Answers result (Ok text.now) }
     {
         Ok(Name {
-            text: String::from_str(alloc, text)?,
+            bytes: SmallVec::from_slice(alloc, text.as_bytes())?,
         })
     }
 
@@ -41,7 +45,8 @@ impl Name {
     pub fn as_str(&self) -> &str
         ensures { result.now ≡ self.now }
     {
-        self.text.as_str()
+        // The bytes are a text's.
+        unsafe { str::from_utf8_unchecked(self.bytes.as_slice()) }
     }
 
     /// An equal name.

@@ -2,7 +2,7 @@ use Rattle.std.proofs.Common.{◌∙◌, ◌≤◌, ap, arith, length}
 use Rattle.px_column.specs.Prelude.{Series, slot_fits, slot_of_ref}
 use Rattle.px_frame.specs.Cell.{list_of}
 use Rattle.px_column.proofs.Building.{built_all, built_more}
-use Rattle.px_context.proofs.piece.GroupPiece.to_column.Goals as goal
+use Rattle.px_context.proofs.piece.GroupPiece.copy_values.Goals as goal
 
 pub push_ref-requires-clause-fits : goal.push_ref-requires-clause-fits
 push_ref-requires-clause-fits c =

@@ -4,7 +4,7 @@ use Rattle.px_frame.specs.Parts.{parts_of}
 use Rattle.px_frame.proofs.PartLaws.{keys_step}
 use Rattle.px_frame.proofs.Built.{groups_step, groups_made, IsGroups-made}
 use Rattle.px_frame.proofs.Started.{started_rows}
-use Rattle.px_frame.proofs.grouping.group_rows.Goals as goal
+use Rattle.px_frame.proofs.grouping.group_keys.Goals as goal
 
 pub loop-row-preserved : goal.loop-row-preserved
 loop-row-preserved c =
