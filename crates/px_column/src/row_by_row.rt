@@ -1,12 +1,12 @@
 //! Columns that a function makes row by row.
-ghost use Rattle.std.specs.Prelude.{◌≡◌, ◌<◌, ◌^◌, Ok, IfOk, length, map, true};
+ghost use Rattle.std.specs.Prelude.{◌≡◌, ◌<◌, ◌^◌, [], Ok, IfOk, length, map, true};
 ghost use Rattle.px_value.specs.Answer.{Answers, AnswersBy};
 ghost use Rattle.px_value.specs.Datum.{Slot};
-ghost use Rattle.px_value.specs.Kind.{slot_fits};
+ghost use Rattle.px_value.specs.Kind.{Kind, slot_fits};
 ghost use Rattle.px_value.specs.KindView.{kind_of};
 ghost use Rattle.px_value.specs.LentView.{slot_of_ref};
 ghost use Rattle.px_value.specs.View.{slot_of};
-ghost use Rattle.px_column.specs.Beside.{common_length, length_of_three, rows_to};
+ghost use Rattle.px_column.specs.Beside.{common_length, length_of_three, rows_to, zipped};
 
 use crate::builder::ColumnBuilder;
 use crate::column::Column;
@@ -66,6 +66,42 @@ pub(crate) fn map_rows<F: Fn(Option<ValueRef<'_>>) -> Px<Option<Value>>>(
     let mut rows = ColumnBuilder::new(alloc, name, dtype, column.len())?;
     for row in column.rows() {
         rows.push(f(row)?)?;
+    }
+    rows.finish()
+}
+
+/// What is made of a row of each of two columns of one type.
+pub(crate) trait OfTwoRows {
+    ghost takes: { Self → Kind };
+
+    ghost made: { Self → Slot → Slot → Slot };
+
+    /// What is made of two rows.
+    fn make(&self, left: Option<ValueRef<'_>>, right: Option<ValueRef<'_>>) -> Px<Option<Value>>
+        requires left { slot_fits (takes self.now) (slot_of_ref left) ≡ true }
+        requires right { slot_fits (takes self.now) (slot_of_ref right) ≡ true }
+        ensures { AnswersBy slot_of result (Ok (made self.now (slot_of_ref left.entry) (slot_of_ref right.entry))) };
+}
+
+/// What is made of the rows of two columns side by side, of which each has so many rows or a single one.
+pub(crate) fn zip_rows<F: OfTwoRows>(
+    mut rows: ColumnBuilder,
+    left: &Column,
+    right: &Column,
+    len: u32,
+    f: &F,
+) -> Px<Column>
+    requires left { left.now.kind ≡ F.takes f.now }
+    requires right { right.now.kind ≡ F.takes f.now }
+    requires empty { rows.slots ≡ [] }
+    requires left_len { length (rows_to len left.now.slots) ≡ len }
+    requires right_len { length (rows_to len right.now.slots) ≡ len }
+    requires fits { (x : Slot) (y : Slot) → slot_fits (F.takes f.now) x ≡ true → slot_fits (F.takes f.now) y ≡ true → slot_fits rows.kind (F.made f.now x y) ≡ true }
+    ensures { Answers result (Ok (record rows { slots = zipped (F.made f.now) (rows_to len left.now.slots) (rows_to len right.now.slots) })) }
+{
+    for row in 0..len {
+        let (x, y) = (left.row_beside(row), right.row_beside(row));
+        rows.push(f.make(x, y)?)?;
     }
     rows.finish()
 }

@@ -1,24 +1,43 @@
 //! Operators on two columns side by side, row by row (polars-expr `apply_operator`).
 ghost use Rattle.std.specs.Prelude.{◌≡◌, ◌+◌, [], Ok, length, true};
 ghost use Rattle.px_value.specs.Answer.{Answers};
+ghost use Rattle.px_value.specs.KindView.{kind_of};
 ghost use Rattle.px_value.specs.declared.operator.Operator.TheVariants.{And, Or, Xor};
 ghost use Rattle.px_operation.specs.Operate.{is_arithmetic};
-ghost use Rattle.px_operation.specs.Operator.{is_comparison, operator_kind};
-ghost use Rattle.px_column.specs.Beside.{rows_to};
+ghost use Rattle.px_operation.specs.Operator.{is_comparison, operated, operator_kind};
 ghost use Rattle.px_column.specs.Operated.{appended_column, arithmetic_column, operated_column, operated_rows};
+ghost use Rattle.px_column.specs.Beside.{rows_to};
 
 use crate::builder::ColumnBuilder;
 use crate::column::Column;
-use crate::row_by_row::len_beside;
+use crate::row_by_row::{OfTwoRows, len_beside, zip_rows};
 use px_operation::{is_integer, operate, operator_type};
-use px_value::{DataType, InvalidWhy, Operator, Px, PxError, Steps};
+use px_value::{DataType, InvalidWhy, Operator, Px, PxError, Steps, Value, ValueRef};
 use std::alloc::Global;
 use std::sync::ledger::Ledger;
+
+/// An operator on values of a type.
+#[derive(Drop)]
+struct Operation<'a> {
+    alloc: Global,
+    dtype: &'a DataType,
+    op: Operator,
+}
+
+impl OfTwoRows for Operation<'_> {
+    ghost takes = { λ o. kind_of o.dtype.now };
+
+    ghost made = { λ o. operated (kind_of o.dtype.now) o.op };
+
+    fn make(&self, left: Option<ValueRef<'_>>, right: Option<ValueRef<'_>>) -> Px<Option<Value>> {
+        operate(self.alloc, self.dtype, self.op, left, right)
+    }
+}
 
 /// What an operator makes of the rows of two columns side by side.
 fn operated_rows(
     alloc: Global,
-    mut rows: ColumnBuilder,
+    rows: ColumnBuilder,
     left: &Column,
     right: &Column,
     op: Operator,
@@ -30,11 +49,9 @@ fn operated_rows(
     requires right_len { length (rows_to len right.now.slots) ≡ len }
     ensures { Answers result (Ok (record rows { slots = operated_rows op left.now right.now len })) }
 {
-    for row in 0..len {
-        let (x, y) = (left.row_beside(row), right.row_beside(row));
-        rows.push(operate(alloc, left.dtype(), op, x, y)?)?;
-    }
-    rows.finish()
+    let dtype = left.dtype();
+    let operation = Operation { alloc, dtype, op };
+    zip_rows(rows, left, right, len, &operation)
 }
 
 /// What an operator makes of two columns.
