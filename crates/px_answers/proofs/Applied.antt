@@ -8,7 +8,7 @@ use Rattle.px_column.specs.Operator.{is_boolean_kind, kind_where}
 use Rattle.px_column.specs.Prelude.{Kind, Slot, Refuses, booleans, lists, is_list_kind, kind_eq}
 use Rattle.px_column.specs.Result.{◌>>=◌}
 use Rattle.px_value.specs.declared.error.PxError.{PxError}
-use Rattle.px_value.specs.declared.error.PxError.TheVariants.{ColumnNotFound, Duplicate, InvalidOperation, ComputeError, OutOfBounds, ShapeMismatch, SchemaMismatch, OutOfMemory}
+use Rattle.px_value.specs.declared.error.PxError.TheVariants.{InvalidOperation, ComputeError, ShapeMismatch}
 use Rattle.px_value.specs.declared.error.InvalidWhy.{InvalidWhy}
 use Rattle.px_value.specs.declared.error.InvalidWhy.TheVariants.{ListKey, Types}
 use Rattle.px_value.specs.declared.error.ComputeWhy.TheVariants.{TooLong}
@@ -31,7 +31,7 @@ use Rattle.px_answers.specs.Parts.{PlannedApply, apply_plan, plan_trees}
 use Rattle.px_answers.specs.Planned.{Planned}
 use Rattle.px_answers.specs.Value.{AreCellsOf, IsCause, IsCauseOfAny, IsCellOf, IsOneOf, IsValue, causes_on}
 use Rattle.px_answers.proofs.Cells.{cell_is_value}
-use Rattle.px_answers.proofs.Inputs.{IsAnswer, IsNode, all_faults_apart, all_refusals_apart}
+use Rattle.px_answers.proofs.Inputs.{IsAnswer, IsNode, all_faults_apart, all_refusals_apart, refused_cause}
 use Rattle.px_answers.proofs.Plain.{is_plain}
 use Rattle.px_answers.proofs.InputLists.{AreAsMany, AreInputs, among_right, are_unit_cells, cause_of_inputs, inputs_of, is_unit_first_cell}
 
@@ -350,14 +350,7 @@ module _ (a : PlannedApply) (f : Frame) (cs : List NamedCell) (are : AreCellsOf 
       by (inr (inr k)) = subst (λ x. IsCause x (apply_plan a) f) (sym k.0) (size_cause k.1.0 k.1.1.0 k.1.1.1)
 
   pub apply_refusal : (e : PxError) → Refuses e (function_named (called a.call) cs) → IsCause e (apply_plan a) f
-  apply_refusal OutOfMemory h = tt
-  apply_refusal (ColumnNotFound n) h = apply_cause (ColumnNotFound n) h
-  apply_refusal (Duplicate n) h = apply_cause (Duplicate n) h
-  apply_refusal (InvalidOperation w) h = apply_cause (InvalidOperation w) h
-  apply_refusal (ComputeError w) h = apply_cause (ComputeError w) h
-  apply_refusal OutOfBounds h = apply_cause OutOfBounds h
-  apply_refusal ShapeMismatch h = apply_cause ShapeMismatch h
-  apply_refusal SchemaMismatch h = apply_cause SchemaMismatch h
+  apply_refusal e h = refused_cause e (function_named (called a.call) cs) (apply_plan a) f (apply_cause e) h
 
 -- what a function has of its inputs
 pub apply_node : (a : PlannedApply) (f : Frame) → IsNode (apply_plan a) a.inputs f

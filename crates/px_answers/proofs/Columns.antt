@@ -18,7 +18,7 @@ use Rattle.px_answers.specs.Planned.{Planned, PlannedColumn, found_by}
 use Rattle.px_answers.specs.Live.{field_on}
 use Rattle.px_answers.specs.Value.{IsValue, IsOneOf, causes_on, finds_misfit, has_misfit_column, unfound_refusal}
 use Rattle.px_answers.proofs.Inputs.{one_left, one_right}
-use Rattle.px_answers.proofs.Scopes.{kind_of_found}
+use Rattle.px_tree.proofs.Scopes.{kind_of_found}
 use Rattle.px_frame.proofs.LookLaws.{names_same}
 use Rattle.px_frame.proofs.Looking.{looked_height}
 

@@ -1,10 +1,10 @@
 -- What the values and the causes of a list of inputs say of a node over them.
-use Rattle.std.proofs.Common.{◌≡◌, ℕ, ◌≤◌, ◌^◌, Bool, true, false, ◌&&◌, ◌||◌, List, [], ◌∷◌, ◌++◌, Some, ◌⊎◌, inl, inr, refl, sym, ◌∙◌, subst, arith}
+use Rattle.std.proofs.Common.{◌≡◌, ◌≤◌, ◌^◌, Bool, true, false, ◌&&◌, ◌||◌, List, [], ◌∷◌, ◌++◌, Some, ◌⊎◌, inl, inr, refl, sym, ◌∙◌, subst, arith}
 use Rattle.std.specs.List.{flat_map, list_any}
 use Rattle.std.proofs.lemmas.Grind.{flat_map-append}
 use Rattle.px_value.specs.declared.error.PxError.{PxError}
-use Rattle.px_value.specs.declared.error.PxError.TheVariants.{ColumnNotFound, Duplicate, InvalidOperation, ComputeError, OutOfBounds, ShapeMismatch, SchemaMismatch, OutOfMemory}
-use Rattle.px_value.specs.declared.error.ComputeWhy.TheVariants.{AggLiteral, AggScalar, SingleIndex, NoKey, NotPartitionSafe, SliceArgument, NullIndex, RangeBound, WindowLength, ChunkLengths, TooLong, DepthText, Interrupted}
+use Rattle.px_value.specs.declared.error.PxError.TheVariants.{ComputeError, ShapeMismatch, OutOfMemory}
+use Rattle.px_value.specs.declared.error.ComputeWhy.TheVariants.{TooLong}
 use Rattle.px_frame.specs.Cell.{Cell, is_unit_cell}
 use Rattle.px_frame.specs.External.{Frame, scope_of}
 use Rattle.px_frame.specs.Spread.{NamedCell}
@@ -130,73 +130,22 @@ among_or_first e [] own h = absurd h
 among_or_first e (r ∷ rs) own h = h
 
 -- a cause of one of some expressions is a cause of another where each size and each cause is
-any_cause_of : (e : PxError) (ps : List Planned) (q : Planned) (f : Frame) → (2 ^ 32 ≤ sizes_on (plan_trees ps) (f ∷ []) → 2 ^ 32 ≤ size_on q.tree (f ∷ [])) → (IsOneOf e (flat_map (λ p. causes_on p f) ps) → IsOneOf e (causes_on q f)) → IsCauseOfAny e ps f → IsCause e q f
+pub any_cause_of : (e : PxError) (ps : List Planned) (q : Planned) (f : Frame) → (2 ^ 32 ≤ sizes_on (plan_trees ps) (f ∷ []) → 2 ^ 32 ≤ size_on q.tree (f ∷ [])) → (IsOneOf e (flat_map (λ p. causes_on p f) ps) → IsOneOf e (causes_on q f)) → IsCauseOfAny e ps f → IsCause e q f
 any_cause_of OutOfMemory ps q f s c h = tt
-any_cause_of (ColumnNotFound n) ps q f s c h = c h
-any_cause_of (Duplicate n) ps q f s c h = c h
-any_cause_of (InvalidOperation w) ps q f s c h = c h
-any_cause_of (ComputeError AggLiteral) ps q f s c h = c h
-any_cause_of (ComputeError AggScalar) ps q f s c h = c h
-any_cause_of (ComputeError SingleIndex) ps q f s c h = c h
-any_cause_of (ComputeError NoKey) ps q f s c h = c h
-any_cause_of (ComputeError NotPartitionSafe) ps q f s c h = c h
-any_cause_of (ComputeError SliceArgument) ps q f s c h = c h
-any_cause_of (ComputeError NullIndex) ps q f s c h = c h
-any_cause_of (ComputeError RangeBound) ps q f s c h = c h
-any_cause_of (ComputeError WindowLength) ps q f s c h = c h
-any_cause_of (ComputeError ChunkLengths) ps q f s c h = c h
 any_cause_of (ComputeError TooLong) ps q f s c h = s h
-any_cause_of (ComputeError DepthText) ps q f s c h = c h
-any_cause_of (ComputeError Interrupted) ps q f s c h = c h
-any_cause_of OutOfBounds ps q f s c h = c h
-any_cause_of ShapeMismatch ps q f s c h = c h
-any_cause_of SchemaMismatch ps q f s c h = c h
+any_cause_of _ ps q f s c h = c h
 
 -- and the other way
 cause_of_any : (e : PxError) (p : Planned) (qs : List Planned) (f : Frame) → (2 ^ 32 ≤ size_on p.tree (f ∷ []) → 2 ^ 32 ≤ sizes_on (plan_trees qs) (f ∷ [])) → (IsOneOf e (causes_on p f) → IsOneOf e (flat_map (λ q. causes_on q f) qs)) → IsCause e p f → IsCauseOfAny e qs f
 cause_of_any OutOfMemory p qs f s c h = tt
-cause_of_any (ColumnNotFound n) p qs f s c h = c h
-cause_of_any (Duplicate n) p qs f s c h = c h
-cause_of_any (InvalidOperation w) p qs f s c h = c h
-cause_of_any (ComputeError AggLiteral) p qs f s c h = c h
-cause_of_any (ComputeError AggScalar) p qs f s c h = c h
-cause_of_any (ComputeError SingleIndex) p qs f s c h = c h
-cause_of_any (ComputeError NoKey) p qs f s c h = c h
-cause_of_any (ComputeError NotPartitionSafe) p qs f s c h = c h
-cause_of_any (ComputeError SliceArgument) p qs f s c h = c h
-cause_of_any (ComputeError NullIndex) p qs f s c h = c h
-cause_of_any (ComputeError RangeBound) p qs f s c h = c h
-cause_of_any (ComputeError WindowLength) p qs f s c h = c h
-cause_of_any (ComputeError ChunkLengths) p qs f s c h = c h
 cause_of_any (ComputeError TooLong) p qs f s c h = s h
-cause_of_any (ComputeError DepthText) p qs f s c h = c h
-cause_of_any (ComputeError Interrupted) p qs f s c h = c h
-cause_of_any OutOfBounds p qs f s c h = c h
-cause_of_any ShapeMismatch p qs f s c h = c h
-cause_of_any SchemaMismatch p qs f s c h = c h
+cause_of_any _ p qs f s c h = c h
 
 -- and from a list to a longer one
 more_causes : (e : PxError) (p : Planned) (ps : List Planned) (f : Frame) → (2 ^ 32 ≤ sizes_on (plan_trees ps) (f ∷ []) → 2 ^ 32 ≤ sizes_on (plan_trees (p ∷ ps)) (f ∷ [])) → (IsOneOf e (flat_map (λ q. causes_on q f) ps) → IsOneOf e (flat_map (λ q. causes_on q f) (p ∷ ps))) → IsCauseOfAny e ps f → IsCauseOfAny e (p ∷ ps) f
 more_causes OutOfMemory p ps f s c h = tt
-more_causes (ColumnNotFound n) p ps f s c h = c h
-more_causes (Duplicate n) p ps f s c h = c h
-more_causes (InvalidOperation w) p ps f s c h = c h
-more_causes (ComputeError AggLiteral) p ps f s c h = c h
-more_causes (ComputeError AggScalar) p ps f s c h = c h
-more_causes (ComputeError SingleIndex) p ps f s c h = c h
-more_causes (ComputeError NoKey) p ps f s c h = c h
-more_causes (ComputeError NotPartitionSafe) p ps f s c h = c h
-more_causes (ComputeError SliceArgument) p ps f s c h = c h
-more_causes (ComputeError NullIndex) p ps f s c h = c h
-more_causes (ComputeError RangeBound) p ps f s c h = c h
-more_causes (ComputeError WindowLength) p ps f s c h = c h
-more_causes (ComputeError ChunkLengths) p ps f s c h = c h
 more_causes (ComputeError TooLong) p ps f s c h = s h
-more_causes (ComputeError DepthText) p ps f s c h = c h
-more_causes (ComputeError Interrupted) p ps f s c h = c h
-more_causes OutOfBounds p ps f s c h = c h
-more_causes ShapeMismatch p ps f s c h = c h
-more_causes SchemaMismatch p ps f s c h = c h
+more_causes _ p ps f s c h = c h
 
 pub cause_of_first : (e : PxError) (p : Planned) (ps : List Planned) (f : Frame) → IsCause e p f → IsCauseOfAny e (p ∷ ps) f
 cause_of_first e p ps f h =

@@ -105,7 +105,7 @@ pub unfound_apart : (q : Planned) (ps : List Planned) (f : Frame) → IsNode q p
 unfound_apart q ps f n = ap (flat_map (unfound_refusal f)) n.columns ∙ columns_apart (unfound_refusal f) ps
 
 -- a cause of one expression is a cause of another where each size and each other cause is
-cause_of : (e : PxError) (p q : Planned) (f : Frame) → (2 ^ 32 ≤ size_on p.tree (f ∷ []) → 2 ^ 32 ≤ size_on q.tree (f ∷ [])) → (IsOneOf e (causes_on p f) → IsOneOf e (causes_on q f)) → IsCause e p f → IsCause e q f
+pub cause_of : (e : PxError) (p q : Planned) (f : Frame) → (2 ^ 32 ≤ size_on p.tree (f ∷ []) → 2 ^ 32 ≤ size_on q.tree (f ∷ [])) → (IsOneOf e (causes_on p f) → IsOneOf e (causes_on q f)) → IsCause e p f → IsCause e q f
 cause_of OutOfMemory p q f s c h = tt
 cause_of (ComputeError TooLong) p q f s c h = s h
 cause_of _ p q f s c h = c h

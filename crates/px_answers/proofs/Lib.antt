@@ -15,6 +15,5 @@ pub mod Plain
 pub mod Ranges
 pub mod Reductions
 pub mod Refusals
-pub mod Scopes
 pub mod Selections
 pub mod SortedBy

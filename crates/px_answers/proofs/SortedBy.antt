@@ -5,9 +5,9 @@ use Rattle.px_column.specs.Prelude.{Slot, Kind, Refuses, is_list_kind}
 use Rattle.px_column.specs.Order.{sort_keys, sorted_rows}
 use Rattle.px_column.specs.Result.{◌>>=◌}
 use Rattle.px_value.specs.declared.error.PxError.{PxError}
-use Rattle.px_value.specs.declared.error.PxError.TheVariants.{ColumnNotFound, Duplicate, InvalidOperation, ComputeError, OutOfBounds, ShapeMismatch, SchemaMismatch, OutOfMemory}
+use Rattle.px_value.specs.declared.error.PxError.TheVariants.{InvalidOperation, ShapeMismatch}
 use Rattle.px_value.specs.declared.error.InvalidWhy.TheVariants.{ListKey}
-use Rattle.px_frame.specs.Cell.{Cell, rows, list_of, cell_of, is_unit_cell}
+use Rattle.px_frame.specs.Cell.{Cell, rows, list_of, is_unit_cell}
 use Rattle.px_frame.specs.External.{Frame, scope_of}
 use Rattle.px_frame.specs.Frame.{slots_at}
 use Rattle.px_frame.specs.Spread.{NamedCell, column_of_cell, spread}
@@ -21,7 +21,7 @@ use Rattle.px_tree.specs.declared.context.Context.TheVariants.{Default}
 use Rattle.px_answers.specs.Parts.{PlannedSortBy, plan_trees, sort_by_plan}
 use Rattle.px_answers.specs.Value.{AreCellsOf, IsCause, IsCauseOfAny, IsCellOf, IsOneOf, IsValue, causes_on}
 use Rattle.px_answers.proofs.Cells.{cell_is_value}
-use Rattle.px_answers.proofs.Inputs.{IsAnswer, IsNode, all_faults_apart, all_refusals_apart}
+use Rattle.px_answers.proofs.Inputs.{IsAnswer, IsNode, all_faults_apart, all_refusals_apart, refused_cause}
 use Rattle.px_answers.proofs.Plain.{is_plain}
 use Rattle.px_answers.proofs.Applied.{invalid_cause, shape_cause, spread_refused}
 use Rattle.px_answers.proofs.InputLists.{AreInputs, among_right, cause_of_first, cause_of_inputs, cause_of_others, inputs_of}
@@ -132,14 +132,7 @@ module _ (s : PlannedSortBy) (f : Frame) (c : NamedCell) (cs : List NamedCell) (
       by (inr k) = shape_cause e (sort_by_plan s) f (keys_refused (length (list_of c.cell)) (cells_in cs) e (fault_of_keys (spread_keys (length (list_of c.cell)) (cells_in cs)) (λ ks. rows (slots_at (list_of c.cell) (sorted_rows (sort_keys s.sort_options ks) (length (list_of c.cell))))) e k)) (fault_cause e k)
 
   pub sort_by_refusal : (e : PxError) → Refuses e (sort_by_named s.sort_options c cs) → IsCause e (sort_by_plan s) f
-  sort_by_refusal OutOfMemory h = tt
-  sort_by_refusal (ColumnNotFound n) h = sort_by_cause (ColumnNotFound n) h
-  sort_by_refusal (Duplicate n) h = sort_by_cause (Duplicate n) h
-  sort_by_refusal (InvalidOperation w) h = sort_by_cause (InvalidOperation w) h
-  sort_by_refusal (ComputeError w) h = sort_by_cause (ComputeError w) h
-  sort_by_refusal OutOfBounds h = sort_by_cause OutOfBounds h
-  sort_by_refusal ShapeMismatch h = sort_by_cause ShapeMismatch h
-  sort_by_refusal SchemaMismatch h = sort_by_cause SchemaMismatch h
+  sort_by_refusal e h = refused_cause e (sort_by_named s.sort_options c cs) (sort_by_plan s) f (sort_by_cause e) h
 
 -- what rows in the order of others have of these and of the others
 pub sort_by_node : (s : PlannedSortBy) (f : Frame) → IsNode (sort_by_plan s) (s.input ∷ s.by) f

@@ -8,7 +8,7 @@ use Rattle.px_value.specs.Result.{◌>>=◌}
 use Rattle.px_value.specs.Series.{Series}
 use Rattle.px_value.specs.declared.cast_options.CastOptions.{CastOptions}
 use Rattle.px_value.specs.declared.error.PxError.{PxError}
-use Rattle.px_value.specs.declared.error.PxError.TheVariants.{ColumnNotFound, Duplicate, InvalidOperation, ComputeError, OutOfBounds, ShapeMismatch, SchemaMismatch, OutOfMemory}
+use Rattle.px_value.proofs.Refusing.{refuses_too}
 use Rattle.px_operation.specs.Cast.{before, cast_slot, items_cast}
 use Rattle.px_operation.proofs.CastLaws.{after, after_none, after_one, items_first, refused_row}
 use Rattle.px_column.specs.Retyped.{cast_rows}
@@ -19,14 +19,7 @@ column_of name to r = result_map_both items (λ e. e) r >>= λ ys. Ok (record { 
 
 -- a refusal of the rows is that of the column
 refused_column : (e : PxError) (name : List ℕ) (to : Kind) (r : Result Slots PxError) → Refuses e r → Refuses e (column_of name to r)
-refused_column (ColumnNotFound n) name to r h = ap (column_of name to) h
-refused_column (Duplicate n) name to r h = ap (column_of name to) h
-refused_column (InvalidOperation w) name to r h = ap (column_of name to) h
-refused_column (ComputeError w) name to r h = ap (column_of name to) h
-refused_column OutOfBounds name to r h = ap (column_of name to) h
-refused_column ShapeMismatch name to r h = ap (column_of name to) h
-refused_column SchemaMismatch name to r h = ap (column_of name to) h
-refused_column OutOfMemory name to r h = tt
+refused_column e name to r = refuses_too e r (column_of name to r) (ap (column_of name to))
 
 -- no row is cast yet
 pub cast_start : (to : Kind) (o : CastOptions) (done all rest : List Slot) → done ≡ [] → rest ≡ all → items_cast to o (slots all) ≡ after done (items_cast to o (slots rest))

@@ -1,11 +1,12 @@
 -- Groups that are brought up to date: slices as long as the cells.
-use Rattle.std.proofs.Common.{◌≡◌, ℕ, suc, ◌+◌, ◌^◌, Bool, true, false, List, [], ◌∷◌, Result, Ok, Err, cond, length, map, nat_lt, sum, refl, sym, ◌∙◌, ap, subst}
+use Rattle.std.proofs.Common.{◌≡◌, ℕ, suc, ◌+◌, ◌^◌, Bool, true, false, List, [], ◌∷◌, Ok, Err, cond, length, map, nat_lt, sum, refl, sym, ◌∙◌, ap, subst}
 use Rattle.std.proofs.lemmas.List.{length-map}
+use Rattle.px_value.proofs.Refusing.{refuses_then}
 use Rattle.px_column.specs.Prelude.{Refuses}
 use Rattle.px_column.specs.Datum.{Slot}
 use Rattle.px_column.specs.Result.{◌>>=◌}
 use Rattle.px_value.specs.declared.error.PxError.{PxError}
-use Rattle.px_value.specs.declared.error.PxError.TheVariants.{ColumnNotFound, Duplicate, InvalidOperation, ComputeError, OutOfBounds, ShapeMismatch, SchemaMismatch, OutOfMemory}
+use Rattle.px_value.specs.declared.error.PxError.TheVariants.{ComputeError}
 use Rattle.px_value.specs.declared.error.ComputeWhy.TheVariants.{TooLong}
 use Rattle.px_frame.specs.Cell.{rows, count_of}
 use Rattle.px_frame.specs.Consecutive.{consecutive, slices_from}
@@ -17,17 +18,6 @@ use Rattle.px_context.specs.declared.agg_state.Layout.{Layout}
 use Rattle.px_context.specs.declared.agg_state.Layout.TheVariants.{Lists, Scalars, Flat, Rows, Unit as Single}
 use Rattle.px_context.specs.declared.agg_state.UpdateGroups.{UpdateGroups}
 use Rattle.px_context.specs.declared.agg_state.UpdateGroups.TheVariants.{No, WithGroupsLen, WithSeriesLen}
-
--- a refusal stays one, whatever would come next
-pub refuses_then : {X Y : Type 0} (e : PxError) (r : Result X PxError) (f : X → Result Y PxError) → Refuses e r → Refuses e (r >>= f)
-refuses_then (ColumnNotFound n) r f h = ap (λ q. q >>= f) h
-refuses_then (Duplicate n) r f h = ap (λ q. q >>= f) h
-refuses_then (InvalidOperation w) r f h = ap (λ q. q >>= f) h
-refuses_then (ComputeError w) r f h = ap (λ q. q >>= f) h
-refuses_then OutOfBounds r f h = ap (λ q. q >>= f) h
-refuses_then ShapeMismatch r f h = ap (λ q. q >>= f) h
-refuses_then SchemaMismatch r f h = ap (λ q. q >>= f) h
-refuses_then OutOfMemory r f h = tt
 
 pub list_counts : (xs : List Slot) → map count_of (map (λ x. rows (items_at x)) xs) ≡ map len_at xs
 list_counts [] = refl

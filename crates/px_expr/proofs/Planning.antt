@@ -4,10 +4,11 @@ use Rattle.std.specs.Prelude.{IfErr}
 use Rattle.std.specs.Result.{IsErrAnd}
 use Rattle.std.proofs.lemmas.List.Sums.{fold-append}
 use Rattle.std.proofs.Math.Seq.{take-suc}
+use Rattle.px_value.proofs.Refusing.{refuses_too}
 use Rattle.px_column.specs.Prelude.{Refuses}
 use Rattle.px_column.specs.Result.{◌>>=◌}
 use Rattle.px_value.specs.declared.error.PxError.{PxError}
-use Rattle.px_value.specs.declared.error.PxError.TheVariants.{ColumnNotFound, Duplicate, InvalidOperation, ComputeError, OutOfBounds, ShapeMismatch, SchemaMismatch, OutOfMemory}
+use Rattle.px_value.specs.declared.error.PxError.TheVariants.{OutOfMemory}
 use Rattle.px_arena.specs.Named.{NamedNode}
 use Rattle.px_tree.specs.Tree.{Tree}
 use Rattle.px_tree.specs.Typing.{Scope}
@@ -53,16 +54,6 @@ plans_next ts scope place es i e ps p h at before planned = plans_more ts scope 
 plans_refused : (ts : List Tree) (scope : Scope) (place : Context) (es : List NamedNode) (i : ℕ) (e : NamedNode) (ps : List Planned) → i < length es → e ≡ slice_index_or es i e → plans_in (take i es) ts scope place ≡ Ok ps → (error : PxError) → plan_at ts scope place e ≡ Err error → plans_in (take (i + 1) es) ts scope place ≡ Err error
 plans_refused ts scope place es i e ps h at before error refused = plans_more ts scope place es i e h at ∙ rw (before, refused) refl
 
-refuses_too : {Y Z : Type 0} (error : PxError) (x : Result Y PxError) (z : Result Z PxError) → ((f : PxError) → x ≡ Err f → z ≡ Err f) → Refuses error x → Refuses error z
-refuses_too OutOfMemory x z step r = tt
-refuses_too (ColumnNotFound n) x z step r = step (ColumnNotFound n) r
-refuses_too (Duplicate n) x z step r = step (Duplicate n) r
-refuses_too (InvalidOperation w) x z step r = step (InvalidOperation w) r
-refuses_too (ComputeError w) x z step r = step (ComputeError w) r
-refuses_too OutOfBounds x z step r = step OutOfBounds r
-refuses_too ShapeMismatch x z step r = step ShapeMismatch r
-refuses_too SchemaMismatch x z step r = step SchemaMismatch r
-
 noted_more : (ts : List Tree) (s : ExpressionConversionState) (es : List NamedNode) (i : ℕ) (d : NamedNode) → i < length es → all_noted ts s (take (i + 1) es) ≡ noted_at ts (all_noted ts s (take i es)) (slice_index_or es i d)
 noted_more ts s es i d h = rw (add-one, take-suc es i d h, fold-append (noted_at ts) s (take i es) (slice_index_or es i d ∷ [])) refl
 
@@ -76,7 +67,7 @@ refused_front ts scope place s es i e ps new error h at before noted refused = r
   count = i;
   plans = ps;
   planned = before;
-  refused = refuses_too error (plan_at ts scope place e) (plans_in (take (i + 1) es) ts scope place) (plans_refused ts scope place es i e ps h at before) refused;
+  refused = refuses_too error (plan_at ts scope place e) (plans_in (take (i + 1) es) ts scope place) (plans_refused ts scope place es i e ps h at before error) refused;
   noted = noted;
 }
 

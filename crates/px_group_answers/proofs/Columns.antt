@@ -1,46 +1,33 @@
 -- What a column node has on groups of a frame's own columns, and else of those beside it.
-use Rattle.std.proofs.Common.{◌≡◌, ℕ, ◌==◌, zero, suc, ◌+◌, ◌<◌, ◌^◌, ◌≤◌, ℤ, pos, ◌+ℤ◌, ◌-ℤ◌, Bool, true, false, ◌⊎◌, inr, cond, not, ◌&&◌, nat_lt, List, [], ◌∷◌, ◌++◌, Option, Some, None, Result, Ok, Err, Bor, IfOk, IfErr, IfSome, is_some, ok_or, drop, inl, length, map, refl, sym, ◌∙◌, ap, subst, arith}
+use Rattle.std.proofs.Common.{◌≡◌, ℕ, ◌==◌, zero, suc, ◌+◌, ◌^◌, Bool, true, false, cond, not, ◌&&◌, nat_lt, List, [], ◌∷◌, ◌++◌, Option, Some, None, Result, Ok, Err, Bor, IfErr, IfSome, is_some, ok_or, drop, inl, length, map, refl, sym, ◌∙◌, ap, subst, arith}
 use Rattle.std.specs.List.{flat_map, list_all}
 use Rattle.std.specs.Option.{option_map_or, option_or}
-use Rattle.std.specs.Prelude.{codes, option_map}
+use Rattle.std.specs.Prelude.{option_map}
 use Rattle.std.proofs.lemmas.Bool.Decides.{nat_tests}
 use Rattle.std.proofs.lemmas.List.{length-map}
-use Rattle.std.proofs.lemmas.List.FromFn.{length-map-range_with_len}
-use Rattle.px_column.specs.Prelude.{Answers, Refuses, integer, fits, Kind, int32s, int64s, uint32s, Series, slot_at}
-use Rattle.px_column.specs.Reduction.{count_slot}
-use Rattle.px_value.specs.declared.error.ComputeWhy.TheVariants.{RangeBound, TooLong}
-use Rattle.px_value.specs.declared.error.InvalidWhy.TheVariants.{RangeType}
+use Rattle.px_column.specs.Prelude.{Answers, Refuses, fits, Kind, Series, slot_at}
 use Rattle.px_value.specs.declared.error.PxError.{PxError}
-use Rattle.px_value.specs.declared.error.PxError.TheVariants.{ColumnNotFound, Duplicate, InvalidOperation, ComputeError, OutOfBounds, ShapeMismatch, SchemaMismatch, OutOfMemory}
+use Rattle.px_value.specs.declared.error.PxError.TheVariants.{ColumnNotFound, ShapeMismatch, OutOfMemory}
 use Rattle.px_frame.proofs.LookLaws.{has_length, look_rows}
-use Rattle.px_frame.specs.Aggregate.{count_column}
-use Rattle.px_frame.specs.Cell.{Cell, unit, rows}
+use Rattle.px_frame.specs.Cell.{rows}
 use Rattle.px_frame.specs.External.{Frame, alone, external_at, height, look_in, rows_of_frame, scope_of}
 use Rattle.px_frame.specs.Frame.{are_below, has_height, has_name, height_of, look, series_at, slots_at}
 use Rattle.px_frame.specs.Groups.{Group, Groups, IsGroups, is_group}
-use Rattle.px_frame.specs.Spread.{NamedCell}
-use Rattle.px_tree.specs.Cost.{is_flat_rows}
-use Rattle.px_tree.specs.Node.{integers, literal_cell, natural}
-use Rattle.px_tree.specs.Shape.{is_single, is_unit}
-use Rattle.px_tree.specs.Size.{count_on, counts_on, size_on}
-use Rattle.px_tree.specs.Tree.{Literal, single, range, series, column, len, literal}
-use Rattle.px_tree.specs.Typing.{is_range_kind, kind_of_name, refusals_of, refused_where}
+use Rattle.px_tree.specs.Tree.{column}
+use Rattle.px_tree.specs.Typing.{kind_of_name, refusals_of, refused_where}
 use Rattle.px_tree.specs.Value.{faults_on, is_misfit}
 use Rattle.px_tree.specs.declared.context.Context.TheVariants.{Aggregation}
-use Rattle.px_context.specs.Built.{literal_context, new_context}
-use Rattle.px_context.specs.Context.{Context, cells_of}
+use Rattle.px_context.specs.Built.{new_context}
+use Rattle.px_context.specs.Context.{Context}
 use Rattle.px_group_nodes.specs.Made.{named_in}
 use Rattle.px_answers.proofs.Cells.{value_is_cell}
 use Rattle.px_answers.proofs.Beside.{beside_looked, column_parts, own_found, own_looked}
 use Rattle.px_answers.proofs.Columns.{column_plan, found_is_value, found_named}
 use Rattle.px_answers.proofs.Counts.{and_left, and_right}
 use Rattle.px_answers.proofs.Inputs.{one_left, one_right}
-use Rattle.px_answers.proofs.Scopes.{kind_of_found}
-use Rattle.px_answers.specs.Literal.{literal_column, range_column, range_series}
+use Rattle.px_tree.proofs.Scopes.{kind_of_found}
 use Rattle.px_answers.specs.Planned.{Planned, PlannedColumn, found_by, is_added}
 use Rattle.px_answers.specs.Value.{IsCellOf, IsOneOf, column_of, finds_misfit, has_misfit_column, unfound_refusal}
-use Rattle.px_group_answers.proofs.Pointwise.{sum_more}
-use Rattle.px_group_answers.specs.Leaf.{group_literal_column}
 use Rattle.px_group_answers.specs.OnGroups.{AreCellsOn, IsContextOf, IsGroupCause, group_frames, group_refusals}
 
 -- columns behind others, at some rows

@@ -33,7 +33,7 @@ use Rattle.px_group_nodes.proofs.Likeness.{like_one, shaped}
 use Rattle.px_group_nodes.proofs.OneInput.{IsRowByRow}
 use Rattle.px_group_nodes.proofs.Operators.{IsTyped, IsUnder, made_under, ok_is, typed_by, under_made}
 use Rattle.px_group_nodes.proofs.Rowwise.{cell_at}
-use Rattle.px_group_nodes.proofs.Stepping.{refuses_is}
+use Rattle.px_value.proofs.Refusing.{refuses_or}
 
 -- slots that were cast one by one
 abbrev made_slots : Result Slots PxError → Result (List Slot) PxError
@@ -291,7 +291,7 @@ module _ (o : CastOptions) (loose : is_strict o ≡ false) where
   -- and so on a context that reads from one cell
   pub lane_refused : (to : Kind) (a : Context) → IsContext a → has_lane a ≡ true → slots_fit a.values.kind a.values.slots ≡ true → (e : PxError) (n : ℕ) → Refuses e (cast_named to o (lane_of a))
       → (cast_kind (cell_kind a) to ≡ Err e) ⊎ IsRefusal e (cast_answers to o a) n
-  lane_refused to a ok h fit e n r = by (refuses_is e (cast_named to o (lane_of a)) r)
+  lane_refused to a ok h fit e n r = by (refuses_or e (cast_named to o (lane_of a)) r)
     where
       by : (e ≡ OutOfMemory) ⊎ (cast_named to o (lane_of a) ≡ Err e) → (cast_kind (cell_kind a) to ≡ Err e) ⊎ IsRefusal e (cast_answers to o a) n
       by (inl m) = inr (inl (inl m))

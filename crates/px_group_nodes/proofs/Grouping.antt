@@ -9,7 +9,7 @@ use Rattle.px_frame.specs.Spread.{NamedCell}
 use Rattle.px_context.specs.Context.{Context, cell_kind, has_units}
 use Rattle.px_group_nodes.specs.Alike.{lengths_in}
 use Rattle.px_group_nodes.specs.Made.{IsFault, IsMade, IsRefusal, count_in, counts_in, named_cells}
-use Rattle.px_group_nodes.proofs.Stepping.{refuses_is}
+use Rattle.px_value.proofs.Refusing.{refuses_or}
 
 -- the context of a node's answers
 pub made_of : (r : Result Context PxError) (answers : List (Result NamedCell PxError)) (name : List ℕ) (kind : Result Kind PxError) (one : Bool) (count : ℕ) (cs : List NamedCell) (k : Kind)
@@ -43,7 +43,7 @@ refused_of (Err e) answers p cs a h = by h
 
 -- a refusal of the type is the node's
 pub refused_kind : (e : PxError) (kind : Result Kind PxError) (answers : List (Result NamedCell PxError)) → Refuses e kind → (kind ≡ Err e) ⊎ IsFault e answers
-refused_kind e kind answers h = by (refuses_is e kind h)
+refused_kind e kind answers h = by (refuses_or e kind h)
   where
     by : (e ≡ OutOfMemory) ⊎ (kind ≡ Err e) → (kind ≡ Err e) ⊎ IsFault e answers
     by (inl m) = inr (inl m)

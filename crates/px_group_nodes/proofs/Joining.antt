@@ -18,7 +18,7 @@ use Rattle.px_context.specs.Built.{with_column}
 use Rattle.px_context.specs.Context.{Context}
 use Rattle.px_group_nodes.specs.Alike.{AreLike, AreOf, flat_over, lengths_in, values_in}
 use Rattle.px_group_nodes.specs.Made.{named_cells}
-use Rattle.px_group_nodes.proofs.Stepping.{refuses_is}
+use Rattle.px_value.proofs.Refusing.{refuses_or}
 
 -- a cell under a name and with a type
 abbrev pub named : List ℕ → Kind → Cell → NamedCell
@@ -159,7 +159,7 @@ refused_by n made e false h f = (cc, grind (arith, nat_tests, h))
 
 -- and slices are refused where there are as many
 pub consecutive_long : (ls : List ℕ) (e : PxError) → Refuses e (consecutive ls) → (e ≡ OutOfMemory) ⊎ ((e ≡ ComputeError TooLong) × (2 ^ 32 ≤ sum ls))
-consecutive_long ls e h = by (refuses_is e (consecutive ls) h)
+consecutive_long ls e h = by (refuses_or e (consecutive ls) h)
   where
     by : (e ≡ OutOfMemory) ⊎ (consecutive ls ≡ Err e) → (e ≡ OutOfMemory) ⊎ ((e ≡ ComputeError TooLong) × (2 ^ 32 ≤ sum ls))
     by (inl m) = inl m

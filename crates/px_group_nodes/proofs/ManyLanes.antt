@@ -26,7 +26,7 @@ use Rattle.px_group_nodes.specs.Many.{AreAllPaired, IsPairedWith, across}
 use Rattle.px_group_nodes.proofs.Functions.{function_kinds, function_name, function_shape, is_first_unit}
 use Rattle.px_group_nodes.proofs.Lanes.{ReadsAt, lane_answer, lane_is, lane_kind, lane_units, named_at, reads_at, unit_of, unit_or}
 use Rattle.px_group_nodes.proofs.RowFunctions.{all_at, function_at, function_refused, function_stands, function_units_all, stand_at}
-use Rattle.px_group_nodes.proofs.Stepping.{refuses_is}
+use Rattle.px_value.proofs.Refusing.{refuses_or}
 
 -- each of some contexts is sound
 abbrev pub AreSound : List Context → Type 0
@@ -224,7 +224,7 @@ module _ (f : FunctionExpr) (r : is_row_function f ≡ true) (cs : List Context)
 
   -- it is refused for the types of the cells alone
   pub lanes_refused : (e : PxError) (n : ℕ) → Refuses e (function_named f (lanes_of cs)) → (function_type f cs ≡ Err e) ⊎ IsRefusal e (function_answers f cs) n
-  lanes_refused e n h = by (refuses_is e (function_named f (lanes_of cs)) h)
+  lanes_refused e n h = by (refuses_or e (function_named f (lanes_of cs)) h)
     where
       by : (e ≡ OutOfMemory) ⊎ (function_named f (lanes_of cs) ≡ Err e) → (function_type f cs ≡ Err e) ⊎ IsRefusal e (function_answers f cs) n
       by (inl w) = inr (inl (inl w))

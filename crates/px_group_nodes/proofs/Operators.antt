@@ -22,7 +22,7 @@ use Rattle.px_group_nodes.proofs.Joining.{named}
 use Rattle.px_group_nodes.proofs.Lanes.{IsRowWise, lane_kind, named_at, two_read}
 use Rattle.px_group_nodes.proofs.Likeness.{like_two, shaped}
 use Rattle.px_group_nodes.proofs.Rowwise.{IsRow, cell_at, two_at, two_there, zip_shape}
-use Rattle.px_group_nodes.proofs.Stepping.{refuses_is}
+use Rattle.px_value.proofs.Refusing.{refuses_or}
 
 abbrev typed_ok : Kind → Result Kind PxError
 typed_ok k = Ok k
@@ -113,7 +113,7 @@ binary_refused op n a b e x y h = by (operator_kind op a.kind b.kind) h
 module _ (l r : Context) (p : ArePaired l r) (okl : IsContext l) (okr : IsContext r) (hl : has_lane l ≡ true) (hr : has_lane r ≡ true) where
   -- and so on two contexts that read from one cell each
   pub lanes_refused : (op : Operator) (e : PxError) (n : ℕ) → Refuses e (binary_named op (lane_of l) (lane_of r)) → (operator_kind op (cell_kind l) (cell_kind r) ≡ Err e) ⊎ IsRefusal e (operator_answers op l r) n
-  lanes_refused op e n h = by (refuses_is e (binary_named op (lane_of l) (lane_of r)) h)
+  lanes_refused op e n h = by (refuses_or e (binary_named op (lane_of l) (lane_of r)) h)
     where
       by : (e ≡ OutOfMemory) ⊎ (binary_named op (lane_of l) (lane_of r) ≡ Err e) → (operator_kind op (cell_kind l) (cell_kind r) ≡ Err e) ⊎ IsRefusal e (operator_answers op l r) n
       by (inl m) = inr (inl (inl m))

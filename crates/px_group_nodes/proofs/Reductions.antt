@@ -32,7 +32,7 @@ use Rattle.px_group_nodes.specs.Reduction.{IsReduced, laid_count, reads_groups, 
 use Rattle.px_group_nodes.proofs.Joining.{named}
 use Rattle.px_group_nodes.proofs.Likeness.{like_one, shaped}
 use Rattle.px_group_nodes.proofs.Rowwise.{unit_cell_of}
-use Rattle.px_group_nodes.proofs.Stepping.{refuses_is}
+use Rattle.px_value.proofs.Refusing.{refuses_or}
 
 abbrev cell_ok : NamedCell → Result NamedCell PxError
 cell_ok c = Ok c
@@ -174,7 +174,7 @@ module _ (a : Context) (ok : IsContext a) (h : reads_groups a ≡ true) where
 
   -- a refusal of the column is one of the reductions
   pub flat_refused : (m : GroupByMethod) (e : PxError) → Refuses e (reduced_column m a.values a.groups) → (reduced_kind m (cell_kind a) ≡ Err e) ⊎ IsRefusal e (reduction_answers m a) (laid_count m a)
-  flat_refused m e r = by (refuses_is e (reduced_column m a.values a.groups) r)
+  flat_refused m e r = by (refuses_or e (reduced_column m a.values a.groups) r)
     where
       why : IsWhy m a.values a.groups e → (reduced_kind m (cell_kind a) ≡ Err e) ⊎ IsRefusal e (reduction_answers m a) (laid_count m a)
       why (inl t) = inl (ap (reduced_kind m) flat_kind ∙ t)

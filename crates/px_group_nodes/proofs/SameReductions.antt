@@ -1,12 +1,12 @@
 -- Reductions of a unit literal: the same for each group.
-use Rattle.std.proofs.Common.{◌≡◌, ◌⊎◌, inl, inr, ℕ, Bool, true, false, not, List, [], ◌∷◌, Result, Ok, Err, length, map, refl, sym, ◌∙◌, ap, subst}
+use Rattle.std.proofs.Common.{◌≡◌, ◌⊎◌, inl, inr, ℕ, Bool, true, false, not, List, [], ◌∷◌, Result, Ok, Err, map, refl, sym, ◌∙◌, ap, subst}
 use Rattle.px_column.specs.Prelude.{Kind, Refuses, slot_at}
 use Rattle.px_column.specs.Reduction.{reduced_kind}
 use Rattle.px_column.specs.Result.{◌>>=◌}
 use Rattle.px_value.specs.declared.error.PxError.{PxError}
 use Rattle.px_value.specs.declared.error.PxError.TheVariants.{OutOfMemory}
 use Rattle.px_value.specs.declared.method.GroupByMethod.{GroupByMethod}
-use Rattle.px_frame.specs.Cell.{Cell, is_unit_cell, list_of, rows, unit}
+use Rattle.px_frame.specs.Cell.{Cell, is_unit_cell, rows, unit}
 use Rattle.px_frame.specs.Groups.{Group}
 use Rattle.px_frame.specs.Spread.{NamedCell, column_of_cell}
 use Rattle.px_tree.specs.Node.{reduction_cell}
@@ -17,11 +17,11 @@ use Rattle.px_context.specs.Context.{Context, cell_kind, cells_in, has_units, ki
 use Rattle.px_context.specs.declared.agg_state.Layout.{Layout}
 use Rattle.px_context.specs.declared.agg_state.Layout.TheVariants.{Lists, Scalars, Flat, Rows, Unit as Single}
 use Rattle.px_group_nodes.specs.Lane.{lane_of}
-use Rattle.px_group_nodes.specs.Made.{IsRefusal, named_cells, named_in}
+use Rattle.px_group_nodes.specs.Made.{IsRefusal, named_cells}
 use Rattle.px_group_nodes.specs.Reduction.{IsReduced, laid_count, reduction_answers}
 use Rattle.px_group_nodes.proofs.Joining.{named}
 use Rattle.px_group_nodes.proofs.Reductions.{reduction_like}
-use Rattle.px_group_nodes.proofs.Stepping.{refuses_is}
+use Rattle.px_value.proofs.Refusing.{refuses_or}
 
 single_is : (l : Layout) → is_unit_literal l ≡ true → l ≡ Single
 single_is Single h = refl
@@ -96,7 +96,7 @@ module _ (a : Context) (h : is_unit_literal a.layout ≡ true) where
 
   -- and why there is none
   pub literal_refused : (m : GroupByMethod) (e : PxError) → Refuses e (aggregation_named m (lane_of a)) → (reduced_kind m (cell_kind a) ≡ Err e) ⊎ IsRefusal e (reduction_answers m a) (laid_count m a)
-  literal_refused m e r = by (refuses_is e (aggregation_named m (lane_of a)) r)
+  literal_refused m e r = by (refuses_or e (aggregation_named m (lane_of a)) r)
     where
       typed : (q : Result Kind PxError) → reduced_kind m a.values.kind ≡ q → aggregation_named m (named a.values.name a.values.kind cell_there) ≡ Err e → reduced_kind m (cell_kind a) ≡ Err e
       typed (Ok k) t f =

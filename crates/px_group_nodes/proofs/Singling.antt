@@ -1,5 +1,5 @@
 -- What a mask keeps of a unit literal.
-use Rattle.std.proofs.Common.{◌≡◌, ◌⊎◌, inl, inr, ℕ, zero, suc, ◌==◌, ◌<◌, ◌^◌, Bool, true, false, ◌&&◌, ◌||◌, cond, if◌then◌else◌, List, [], ◌∷◌, Ok, Err, length, map, replicate, nat_lt, refl, subst, sym, ap, ◌∙◌, arith}
+use Rattle.std.proofs.Common.{◌≡◌, ◌⊎◌, inl, inr, ℕ, zero, suc, ◌==◌, ◌<◌, ◌^◌, Bool, true, false, ◌&&◌, ◌||◌, cond, List, [], ◌∷◌, Ok, Err, length, map, replicate, nat_lt, refl, subst, sym, ap, ◌∙◌, arith, if◌then◌else◌}
 use Rattle.std.specs.List.{list_all}
 use Rattle.std.proofs.lemmas.Bool.Decides.{nat_tests}
 use Rattle.std.proofs.lemmas.List.{length-map, length-replicate}
@@ -28,7 +28,7 @@ use Rattle.px_group_nodes.proofs.Lanes.{ReadsAt, lane_kind, named_at, reads_at}
 use Rattle.px_group_nodes.proofs.Masking.{flat_cells, flat_mask, untouched_filtered, untouched_lane, unit_mask}
 use Rattle.px_group_nodes.proofs.Rowwise.{cell_at}
 use Rattle.px_group_nodes.proofs.Selections.{filter_under, kept_list}
-use Rattle.px_group_nodes.proofs.Stepping.{refuses_is}
+use Rattle.px_value.proofs.Refusing.{refuses_or}
 
 unit_there : (c : Cell) (g : List ℕ) → is_unit_cell c ≡ true → cell_at c g ≡ c
 unit_there (unit s) g h = refl
@@ -88,7 +88,7 @@ module _ (a by : Context) (oka : IsContext a) (okb : IsContext by) (len : length
 
     -- is refused for want of memory alone
     pub units_refused : (e : PxError) → Refuses e (filter_named (lane_of a) (lane_of by)) → e ≡ OutOfMemory
-    units_refused e h = tested (refuses_is e (filter_named (lane_of a) (lane_of by)) h)
+    units_refused e h = tested (refuses_or e (filter_named (lane_of a) (lane_of by)) h)
       where
         truths : is_boolean_kind (lane_of by).kind ≡ true
         truths = ap is_boolean_kind (sym (lane_kind by okb (has_unit by hb))) ∙ t

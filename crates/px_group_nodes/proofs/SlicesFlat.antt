@@ -1,5 +1,5 @@
 -- A slice of flat rows, where the offset and the length are unit literals.
-use Rattle.std.proofs.Common.{◌≡◌, ◌⊎◌, inl, inr, ℕ, ℤ, Bool, ◌&&◌, ◌<◌, true, false, List, [], ◌∷◌, Option, Result, Ok, Err, if◌then◌else◌, length, map, refl, subst, sym, ap, ◌∙◌, arith}
+use Rattle.std.proofs.Common.{◌≡◌, ◌⊎◌, inl, inr, ℕ, ℤ, Bool, ◌&&◌, ◌<◌, true, false, List, [], ◌∷◌, Option, Result, Ok, Err, length, map, refl, subst, sym, ap, ◌∙◌, arith, if◌then◌else◌}
 use Rattle.std.proofs.lemmas.List.{length-map}
 use Rattle.px_column.specs.Function.{window_of}
 use Rattle.px_column.specs.Prelude.{Kind, Refuses, Series, Slot, slot_at}
@@ -23,7 +23,7 @@ use Rattle.px_group_nodes.specs.Slice.{IsSliced, slice_answers, slice_kind}
 use Rattle.px_group_nodes.specs.Three.{answers_of_three}
 use Rattle.px_group_nodes.specs.Windows.{rows_window, window_by, windows_of}
 use Rattle.px_group_nodes.proofs.Joining.{named}
-use Rattle.px_group_nodes.proofs.Stepping.{refuses_is}
+use Rattle.px_value.proofs.Refusing.{refuses_or}
 use Rattle.px_group_nodes.proofs.Windows.{window_slots}
 
 module _ {A B C : Type 0} where
@@ -147,7 +147,7 @@ module _ (c o l : Context) (flat : is_flat c.layout ≡ true) (one : is_unit_lit
   -- or memory was wanting
   pub flat_denied : (e : PxError) (n : ℕ) → Refuses e (window_by (slot_at o.values.slots 0) (slot_at l.values.slots 0)) → 0 < length c.groups.groups
       → (slice_kind (cell_kind c) (cell_kind o) (cell_kind l) ≡ Err e) ⊎ IsRefusal e (slice_answers c o l) n
-  flat_denied e n h z = by (refuses_is e (window_by (slot_at o.values.slots 0) (slot_at l.values.slots 0)) h)
+  flat_denied e n h z = by (refuses_or e (window_by (slot_at o.values.slots 0) (slot_at l.values.slots 0)) h)
     where
       by : (e ≡ OutOfMemory) ⊎ (window_by (slot_at o.values.slots 0) (slot_at l.values.slots 0) ≡ Err e) → (slice_kind (cell_kind c) (cell_kind o) (cell_kind l) ≡ Err e) ⊎ IsRefusal e (slice_answers c o l) n
       by (inl m) = inr (inl (inl m))

@@ -1,9 +1,10 @@
 -- Loops over the groups of contexts.
 use Rattle.std.proofs.Common.{◌≡◌, ◌⊎◌, inl, inr, ℕ, List, [], ◌∷◌, ◌++◌, Result, Ok, Err, IfOk, IfErr, length, map, subst, refl, sym, ap, ◌∙◌, append_assoc, append-nil}
 use Rattle.std.proofs.lemmas.List.{map-append}
+use Rattle.px_value.proofs.Refusing.{refuses_or}
 use Rattle.px_column.specs.Prelude.{Answers, Refuses}
 use Rattle.px_value.specs.declared.error.PxError.{PxError}
-use Rattle.px_value.specs.declared.error.PxError.TheVariants.{ColumnNotFound, Duplicate, InvalidOperation, ComputeError, OutOfBounds, ShapeMismatch, SchemaMismatch, OutOfMemory}
+use Rattle.px_value.specs.declared.error.PxError.TheVariants.{OutOfMemory}
 use Rattle.px_frame.specs.Cell.{Cell, unit, rows, cell_of, list_of}
 use Rattle.px_frame.specs.Spread.{NamedCell}
 use Rattle.px_context.specs.Context.{Context, cell_kind, cells_of}
@@ -25,17 +26,6 @@ named_parts c = by (cells_of c)
     by [] = refl
     by (x ∷ xs) = ap (λ ys. record { name = c.values.name; kind = cell_kind c; cell = x } ∷ ys) (by xs)
 
--- a refusal is want of memory, or the one that is expected
-pub refuses_is : {X : Type 0} (e : PxError) (r : Result X PxError) → Refuses e r → (e ≡ OutOfMemory) ⊎ (r ≡ Err e)
-refuses_is OutOfMemory r h = inl refl
-refuses_is (ColumnNotFound n) r h = inr h
-refuses_is (Duplicate n) r h = inr h
-refuses_is (InvalidOperation w) r h = inr h
-refuses_is (ComputeError w) r h = inr h
-refuses_is OutOfBounds r h = inr h
-refuses_is ShapeMismatch r h = inr h
-refuses_is SchemaMismatch r h = inr h
-
 -- one answer more
 pub answer_more : (done : List NamedCell) (r : Result NamedCell PxError) (c : NamedCell) (rest whole : List (Result NamedCell PxError)) → r ≡ Ok c → map Ok done ++ (r ∷ rest) ≡ whole → map Ok (done ++ c ∷ []) ++ rest ≡ whole
 answer_more done r c rest whole n h =
@@ -48,7 +38,7 @@ fault_there e (c ∷ done) rest = inr (fault_there e done rest)
 
 -- a refusal among the answers
 pub answer_refused : (e : PxError) (done : List NamedCell) (r : Result NamedCell PxError) (rest whole : List (Result NamedCell PxError)) → Refuses e r → map Ok done ++ (r ∷ rest) ≡ whole → IsFault e whole
-answer_refused e done r rest whole n h = by (refuses_is e r n)
+answer_refused e done r rest whole n h = by (refuses_or e r n)
   where
     by : (e ≡ OutOfMemory) ⊎ (r ≡ Err e) → IsFault e whole
     by (inl m) = inl m
@@ -93,7 +83,7 @@ module _ (node : NamedCell → NamedCell → Result NamedCell PxError) (n m : Li
 
 -- what is there is refused for want of memory alone
 pub refuses_ok : {X : Type 0} (e : PxError) (x : X) → Refuses e (Ok x) → e ≡ OutOfMemory
-refuses_ok e x h = by (refuses_is e (Ok x) h)
+refuses_ok e x h = by (refuses_or e (Ok x) h)
   where
     by : (e ≡ OutOfMemory) ⊎ (Ok x ≡ Err e) → e ≡ OutOfMemory
     by (inl m) = m

@@ -1,5 +1,5 @@
 -- A ternary goes row by row.
-use Rattle.std.proofs.Common.{◌≡◌, ◌⊎◌, inl, inr, ℕ, Bool, ◌&&◌, true, false, List, [], ◌∷◌, Result, Ok, Err, if◌then◌else◌, map, refl, subst, sym, ap, ◌∙◌}
+use Rattle.std.proofs.Common.{◌≡◌, ◌⊎◌, inl, inr, ℕ, Bool, ◌&&◌, true, false, List, [], ◌∷◌, Result, Ok, Err, map, refl, subst, sym, ap, ◌∙◌, if◌then◌else◌}
 use Rattle.px_column.specs.Chosen.{chosen}
 use Rattle.px_column.specs.Operator.{is_boolean_kind, kind_where}
 use Rattle.px_column.specs.Prelude.{Kind, Refuses, kind_eq}
@@ -28,7 +28,7 @@ use Rattle.px_group_nodes.proofs.LikenessThree.{like_three}
 use Rattle.px_group_nodes.proofs.Operators.{IsTyped, IsUnder, made_under, ok_is, typed_by, under_made}
 use Rattle.px_group_nodes.proofs.Rowwise.{IsRow, cell_at}
 use Rattle.px_group_nodes.proofs.RowwiseThree.{three_at, three_there, zip_three_shape}
-use Rattle.px_group_nodes.proofs.Stepping.{refuses_is}
+use Rattle.px_value.proofs.Refusing.{refuses_or}
 
 after_test : (t : Bool) (o : Result Kind PxError) (f : Kind → Result NamedCell PxError) → (if t then (o >>= f) else Err SchemaMismatch) ≡ ((if t then o else Err SchemaMismatch) >>= f)
 after_test true o f = refl
@@ -100,7 +100,7 @@ ternary_denied n p a b e x y z h = by (ternary_kind p.kind a.kind b.kind) (sym (
 module _ (a b c : Context) (p : AreThreePaired a b c) (oka : IsContext a) (okb : IsContext b) (okc : IsContext c) (ha : has_lane a ≡ true) (hb : has_lane b ≡ true) (hc : has_lane c ≡ true) where
   -- and so on three contexts that read from one cell each
   pub lanes_denied : (e : PxError) (n : ℕ) → Refuses e (ternary_named (lane_of a) (lane_of b) (lane_of c)) → (ternary_kind (cell_kind a) (cell_kind b) (cell_kind c) ≡ Err e) ⊎ IsRefusal e (ternary_answers a b c) n
-  lanes_denied e n h = by (refuses_is e (ternary_named (lane_of a) (lane_of b) (lane_of c)) h)
+  lanes_denied e n h = by (refuses_or e (ternary_named (lane_of a) (lane_of b) (lane_of c)) h)
     where
       by : (e ≡ OutOfMemory) ⊎ (ternary_named (lane_of a) (lane_of b) (lane_of c) ≡ Err e) → (ternary_kind (cell_kind a) (cell_kind b) (cell_kind c) ≡ Err e) ⊎ IsRefusal e (ternary_answers a b c) n
       by (inl m) = inr (inl (inl m))

@@ -1,5 +1,5 @@
 -- The value of an expression whose columns are the frame's.
-use Rattle.std.proofs.Common.{◌≡◌, ℕ, Bool, true, false, ◌&&◌, cond, List, [], ◌∷◌, ◌++◌, Option, Some, None, Ok, option_map, map, fold, refl, sym, ◌∙◌, ap}
+use Rattle.std.proofs.Common.{◌≡◌, ℕ, true, ◌&&◌, List, [], ◌∷◌, ◌++◌, Option, Some, None, Ok, option_map, map, refl, sym, ◌∙◌, ap}
 use Rattle.std.specs.List.{find}
 use Rattle.std.specs.Option.{option_or}
 use Rattle.std.specs.Prelude.{is_some}
@@ -8,9 +8,9 @@ use Rattle.px_column.specs.Option.{◌>>=◌}
 use Rattle.px_column.specs.Operator.{operator_kind}
 use Rattle.px_column.specs.Reduction.{reduced_kind}
 use Rattle.px_frame.specs.Cell.{Cell, rows}
-use Rattle.px_frame.specs.External.{look_in, scope_of, rows_of_frame, with_field, external_at}
+use Rattle.px_frame.specs.External.{look_in, scope_of, rows_of_frame, external_at}
 use Rattle.px_frame.specs.Frame.{look, series_at, height_of}
-use Rattle.px_frame.specs.Schema.{FieldKind, column_field, has_field_name, is_field_name}
+use Rattle.px_frame.specs.Schema.{FieldKind, column_field, has_field_name}
 use Rattle.px_frame.specs.Spread.{NamedCell}
 use Rattle.px_tree.specs.Node.{binary_cell, ternary_cell, cast_cell, function_cell, filter_cell, slice_cell, gather_cell, sort_cell, sort_by_cell, reduction_cell}
 use Rattle.px_tree.specs.Nodes.{leaf_names, all_leaf_names, order_leaf_names}
@@ -21,6 +21,7 @@ use Rattle.px_tree.specs.Value.{value_on, outcome_on, made, cells_on, named_on, 
 use Rattle.px_laws.specs.Beside.{beside, is_column_of, are_columns_of}
 use Rattle.px_value.proofs.FitLaws.{both}
 use Rattle.px_frame.proofs.LookLaws.{field_look, look_rows as look_at}
+use Rattle.px_tree.proofs.Scopes.{scope_stays}
 use Rattle.px_value.proofs.EachLaws.{each_same}
 
 split : (columns : List Series) (xs ys : List (List ℕ)) → are_columns_of columns (xs ++ ys) ≡ true → (are_columns_of columns xs ≡ true) × (are_columns_of columns ys ≡ true)
@@ -29,29 +30,6 @@ split columns (x ∷ xs) ys h =
     let first = both (is_column_of columns x) (are_columns_of columns (xs ++ ys)) h in
     let rest = split columns xs ys first.1 in
     (λ i. first.0 i && rest.0 i, rest.1)
-
--- a field that is found stays the one that is found
-field_stays : (n : List ℕ) (fields more : List FieldKind) → is_some (find (has_field_name n) fields) ≡ true → find (has_field_name n) (fields ++ more) ≡ find (has_field_name n) fields
-field_stays n [] more h = cc
-field_stays n (f ∷ fields) more h = by (has_field_name n f) (field_stays n fields more) h
-  where
-    by : (b : Bool) → (is_some (find (has_field_name n) fields) ≡ true → find (has_field_name n) (fields ++ more) ≡ find (has_field_name n) fields)
-        → is_some (cond b (Some f) (find (has_field_name n) fields)) ≡ true → cond b (Some f) (find (has_field_name n) (fields ++ more)) ≡ cond b (Some f) (find (has_field_name n) fields)
-    by true rest h = refl
-    by false rest h = rest h
-
-with_stays : (n : List ℕ) (fields : List FieldKind) (s : Series) → is_some (find (has_field_name n) fields) ≡ true → find (has_field_name n) (with_field fields s) ≡ find (has_field_name n) fields
-with_stays n fields s h = by (is_field_name s.name fields)
-  where
-    by : (b : Bool) → find (has_field_name n) (cond b fields (fields ++ column_field s ∷ [])) ≡ find (has_field_name n) fields
-    by true = refl
-    by false = field_stays n fields (column_field s ∷ []) h
-
-pub scope_stays : (n : List ℕ) (fields : List FieldKind) (external : List Series) → is_some (find (has_field_name n) fields) ≡ true → find (has_field_name n) (fold with_field fields external) ≡ find (has_field_name n) fields
-scope_stays n fields [] h = refl
-scope_stays n fields (s ∷ external) h =
-    let next = with_stays n fields s h in
-    scope_stays n (with_field fields s) external (ap is_some next ∙ h) ∙ next
 
 some_map : (o : Option Series) → is_some (option_map column_field o) ≡ is_some o
 some_map None = refl

@@ -8,7 +8,7 @@ use Rattle.px_value.specs.declared.error.PxError.{PxError}
 use Rattle.px_frame.specs.Cell.{Cell, rows}
 use Rattle.px_frame.specs.External.{Frame, height, look_in, scope_of, rows_of_frame, with_field, external_at}
 use Rattle.px_frame.specs.Frame.{look, has_name, series_at}
-use Rattle.px_frame.specs.Schema.{FieldKind, column_field, has_field_name, is_field_name}
+use Rattle.px_frame.specs.Schema.{FieldKind, column_field, has_field_name}
 use Rattle.px_frame.specs.Spread.{NamedCell}
 use Rattle.px_tree.specs.Node.{literal_cell, binary_cell, ternary_cell, cast_cell, function_cell, filter_cell, slice_cell, gather_cell, sort_cell, sort_by_cell, reduction_cell}
 use Rattle.px_tree.specs.Shape.{is_literal_tree, name_of}
@@ -19,27 +19,12 @@ use Rattle.px_tree.specs.Window.{OrderCell, parts_by, window_cell}
 use Rattle.px_tree.specs.declared.context.Context.{Context}
 use Rattle.px_tree.specs.declared.context.Context.TheVariants.{Default, Aggregation}
 use Rattle.px_tree.specs.declared.window.WindowMapping.{WindowMapping}
+use Rattle.px_tree.proofs.Scopes.{missing_stays}
 use Rattle.px_tree.proofs.KindLaws.{There, none_left, none_right, none_first, kind_there, kinds_there}
 use Rattle.px_laws.proofs.Shapes.{bound, made_bound, mapped, map_found}
 use Rattle.px_frame.proofs.LookLaws.{field_look}
 
 -- a name that has a type stands for a column
-pub missing_stays : (n : List ℕ) (fields : List FieldKind) (s : Series) → find (has_field_name n) fields ≡ None → has_name n s ≡ false → find (has_field_name n) (with_field fields s) ≡ None
-missing_stays n fields s h m = by (is_field_name s.name fields)
-  where
-    at_end : (fs : List FieldKind) → find (has_field_name n) fs ≡ None → find (has_field_name n) (fs ++ column_field s ∷ []) ≡ None
-    at_end [] h = rw m refl
-    at_end (f ∷ fs) h = step (has_field_name n f) h (at_end fs)
-      where
-        step : (b : Bool) → cond b (Some f) (find (has_field_name n) fs) ≡ None → (find (has_field_name n) fs ≡ None → find (has_field_name n) (fs ++ column_field s ∷ []) ≡ None)
-            → cond b (Some f) (find (has_field_name n) (fs ++ column_field s ∷ [])) ≡ None
-        step true h rest = cc
-        step false h rest = rest h
-
-    by : (b : Bool) → find (has_field_name n) (cond b fields (fields ++ column_field s ∷ [])) ≡ None
-    by true = h
-    by false = at_end fields h
-
 beside_there : (n : List ℕ) (fields : List FieldKind) (external : List Series) (f : FieldKind) → find (has_field_name n) fields ≡ None → find (has_field_name n) (fold with_field fields external) ≡ Some f → There (look n external)
 beside_there n fields [] f h e = cc
 beside_there n fields (s ∷ external) f h e = by (has_name n s) refl (λ m. beside_there n (with_field fields s) external f (missing_stays n fields s h m) e)

@@ -1,8 +1,7 @@
 -- Where columns and literals fit their types, the values of an expression that is not refused are like those of its type.
-use Rattle.std.proofs.Common.{◌≡◌, ℕ, ◌==◌, Bool, true, false, cond, not, ◌&&◌, ◌||◌, pos, ◌+ℤ◌, ◌-ℤ◌, List, [], ◌∷◌, ◌++◌, Option, Some, None, Result, Ok, Err, option_map, length, map, fold, subst, refl, sym, ◌∙◌, ap}
-use Rattle.std.specs.List.{find, list_all, range_with_len, zip}
+use Rattle.std.proofs.Common.{◌≡◌, ℕ, ◌==◌, Bool, true, false, cond, not, ◌&&◌, pos, ◌+ℤ◌, ◌-ℤ◌, List, [], ◌∷◌, ◌++◌, Option, Some, None, Result, Ok, Err, length, map, subst, refl, sym, ◌∙◌, ap}
+use Rattle.std.specs.List.{list_all, range_with_len, zip}
 use Rattle.std.specs.Option.{option_or}
-use Rattle.std.specs.Prelude.{is_some}
 use Rattle.px_column.specs.Operator.{kind_where, is_boolean_kind, is_integer_kind}
 use Rattle.px_column.specs.Option.{each}
 use Rattle.px_column.specs.Prelude.{integer, Kind, int32s, int64s, uint32s, kind_eq, fits, Series}
@@ -15,81 +14,27 @@ use Rattle.px_value.specs.declared.error.PxError.{PxError}
 use Rattle.px_value.specs.declared.error.InvalidWhy.TheVariants.{RangeType}
 use Rattle.px_value.specs.declared.error.PxError.TheVariants.{InvalidOperation, ComputeError, SchemaMismatch}
 use Rattle.px_frame.specs.Cell.{Cell, rows, list_of}
-use Rattle.px_frame.specs.External.{Frame, height, look_in, scope_of, rows_of_frame, with_field, external_at}
-use Rattle.px_frame.specs.Frame.{look, has_name, name_eq, series_at}
-use Rattle.px_frame.specs.Schema.{FieldKind, column_field, has_field_name, is_field_name}
-use Rattle.px_frame.proofs.LookLaws.{field_look, names_same}
+use Rattle.px_frame.specs.External.{Frame, height, look_in, scope_of, rows_of_frame, external_at}
+use Rattle.px_frame.specs.Frame.{look, has_name, series_at}
 use Rattle.px_frame.proofs.Reducing.{slots_at_fit}
 use Rattle.px_tree.specs.Node.{literal_cell, binary_cell, function_cell, reduction_cell, integers, natural}
 use Rattle.px_tree.specs.Shape.{is_unit, is_literal_tree}
 use Rattle.px_tree.specs.Tree.{Tree, called, Trees, Literal, single, range, series, no_trees, one_tree, column, literal, alias, binary, ternary, cast, function, filter, slice, gather, sort, sort_by, agg, len, window}
-use Rattle.px_tree.specs.Typing.{Scope, kind_in, kinds_in, kind_of_name, is_range_kind, window_kind, refusals_of, all_refusals_of, refused_where, refusal_of, refusal_of_two, fails}
+use Rattle.px_tree.specs.Typing.{Scope, kind_in, kinds_in, is_range_kind, window_kind, refusals_of, all_refusals_of, refused_where, refusal_of, refusal_of_two, fails}
 use Rattle.px_tree.specs.Value.{value_on, outcome_on, made, cells_on, named_on, order_on, first_kind, whole_window, window_parts}
 use Rattle.px_tree.specs.Window.{window_cell}
 use Rattle.px_tree.specs.declared.context.Context.{Context}
 use Rattle.px_tree.specs.declared.context.Context.TheVariants.{Default, Aggregation}
 use Rattle.px_tree.specs.declared.window.WindowMapping.{WindowMapping}
+use Rattle.px_tree.proofs.Scopes.{kind_of_found}
 use Rattle.px_tree.proofs.KindLaws.{none_left, none_right, none_first, none_own, kind_there}
-use Rattle.px_laws.proofs.Beside.{scope_stays}
-use Rattle.px_laws.proofs.Defined.{scope_of_rows, missing_stays}
+use Rattle.px_laws.proofs.Defined.{scope_of_rows}
 use Rattle.px_laws.proofs.Joining.{under_name}
 use Rattle.px_laws.proofs.Like.{is_slot_like, slot_fit_is_like, slots_fit_are_like, as_kind}
 use Rattle.px_laws.proofs.LikeCells.{is_cell_like, unit_like, listed, binary_like, ternary_like, cast_like, AreLike, none_like, more_like, answer, function_like, filter_like, slice_like, gather_like, ordered_like, sort_by_like, reduction_like, is_part_like, part_is_like, window_like}
 use Rattle.px_laws.proofs.Passing.{all_made}
 use Rattle.px_laws.proofs.Shapes.{bound, made_bound, mapped, made_ok, map_found, shape_of_value}
 use Rattle.px_laws.specs.Fitting.{is_fitting, has_fitting_columns, is_fitting_literal, has_fitting_literals, have_fitting_literals, has_fitting_order}
-
--- a name that finds no field is no field's name
-no_field : (n : List ℕ) (fields : List FieldKind) → find (has_field_name n) fields ≡ None → is_field_name n fields ≡ false
-no_field n [] h = refl
-no_field n (f ∷ fields) h = by (name_eq n f.name) h (no_field n fields)
-  where
-    by : (b : Bool) → cond b (Some f) (find (has_field_name n) fields) ≡ None → (find (has_field_name n) fields ≡ None → is_field_name n fields ≡ false) → (b || is_field_name n fields) ≡ false
-    by true g rest = cc
-    by false g rest = rest g
-
--- a field put last is found where none was
-at_end : (n : List ℕ) (fields : List FieldKind) (f : FieldKind) → find (has_field_name n) fields ≡ None → has_field_name n f ≡ true → find (has_field_name n) (fields ++ f ∷ []) ≡ Some f
-at_end n [] f h g = ap (λ b. cond b (Some f) None) g
-at_end n (e ∷ fields) f h g = by (has_field_name n e) h (at_end n fields f)
-  where
-    by : (b : Bool) → cond b (Some e) (find (has_field_name n) fields) ≡ None → (find (has_field_name n) fields ≡ None → has_field_name n f ≡ true → find (has_field_name n) (fields ++ f ∷ []) ≡ Some f)
-        → cond b (Some e) (find (has_field_name n) (fields ++ f ∷ [])) ≡ Some f
-    by true k rest = cc
-    by false k rest = rest k g
-
--- a column beside the frame whose name is new has a field
-new_field : (n : List ℕ) (fields : List FieldKind) (s : Series) → find (has_field_name n) fields ≡ None → has_name n s ≡ true → find (has_field_name n) (with_field fields s) ≡ Some (column_field s)
-new_field n fields s h g =
-    let e = names_same n s.name g in
-    let missing = no_field s.name fields (ap (λ m. find (has_field_name m) fields) (sym e) ∙ h) in
-    ap (λ b. find (has_field_name n) (cond b fields (fields ++ column_field s ∷ []))) missing ∙ at_end n fields (column_field s) h g
-
--- and so the first of a name beside it
-beside_found : (n : List ℕ) (fields : List FieldKind) (external : List Series) (s : Series) → find (has_field_name n) fields ≡ None → look n external ≡ Some s → find (has_field_name n) (fold with_field fields external) ≡ Some (column_field s)
-beside_found n fields [] s h g = cc
-beside_found n fields (t ∷ external) s h g = by (has_name n t) refl g (λ e k. beside_found n (with_field fields t) external s (missing_stays n fields t h e) k)
-  where
-    by : (b : Bool) → has_name n t ≡ b → cond b (Some t) (look n external) ≡ Some s → (has_name n t ≡ false → look n external ≡ Some s → find (has_field_name n) (fold with_field (with_field fields t) external) ≡ Some (column_field s))
-        → find (has_field_name n) (fold with_field (with_field fields t) external) ≡ Some (column_field s)
-    by true e k rest =
-        let same : t ≡ s = cc in
-        let first = new_field n fields t h e in
-        scope_stays n (with_field fields t) external (ap is_some first) ∙ first ∙ ap (λ u. Some (column_field u)) same
-    by false e k rest = rest e k
-
--- a column that is found has the type of its name
-kind_of_found : (n : List ℕ) (frame : Frame) (s : Series) → look_in n frame ≡ Some s → kind_of_name n (scope_of frame) ≡ Some s.kind
-kind_of_found n frame s h = by (look n frame.columns) refl h
-  where
-    by : (o : Option Series) → look n frame.columns ≡ o → option_or o (look n frame.external) ≡ Some s → kind_of_name n (scope_of frame) ≡ Some s.kind
-    by (Some t) e g =
-        let same : t ≡ s = cc in
-        let found : find (has_field_name n) (map column_field frame.columns) ≡ Some (column_field t) = field_look n frame.columns ∙ ap (option_map column_field) e in
-        ap (option_map (λ (f : FieldKind). f.kind)) (scope_stays n (map column_field frame.columns) frame.external (ap is_some found) ∙ found) ∙ ap (λ u. Some u.kind) same
-    by None e g =
-        let missing : find (has_field_name n) (map column_field frame.columns) ≡ None = field_look n frame.columns ∙ ap (option_map column_field) e in
-        ap (option_map (λ (f : FieldKind). f.kind)) (beside_found n (map column_field frame.columns) frame.external s missing g)
 
 -- a column that is found among fitting ones fits
 found_fits : (n : List ℕ) (columns : List Series) (s : Series) → list_all is_fitting columns ≡ true → look n columns ≡ Some s → is_fitting s ≡ true

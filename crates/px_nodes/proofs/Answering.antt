@@ -1,24 +1,11 @@
 -- What kernels answer, passed on as cells.
-use Rattle.std.proofs.Common.{◌≡◌, Bool, true, Result, Ok, Err, IfOk, length, sym, ◌∙◌, ap, subst}
-use Rattle.px_column.specs.Prelude.{Answers, AnswersBy, Refuses, Series}
-use Rattle.px_column.specs.Result.{◌>>=◌}
+use Rattle.std.proofs.Common.{◌≡◌, Bool, true, Result, Ok, Err, IfOk, length, sym, ◌∙◌, subst}
+use Rattle.px_column.specs.Prelude.{Answers, AnswersBy, Series}
 use Rattle.px_value.specs.declared.error.PxError.{PxError}
-use Rattle.px_value.specs.declared.error.PxError.TheVariants.{ColumnNotFound, Duplicate, InvalidOperation, ComputeError, OutOfBounds, ShapeMismatch, SchemaMismatch, OutOfMemory}
 use Rattle.px_frame.specs.CellView.{named_cell}
 use Rattle.px_frame.specs.Spread.{NamedCell}
 use Rattle.px_frame.specs.declared.cell.Cell.{Cell}
 use Rattle.px_nodes.specs.Named.{as_cell, as_short_cell}
-
--- a refusal is that of all that comes after
-pub refuses_then : {X Y : Type 0} (e : PxError) (r : Result X PxError) (f : X → Result Y PxError) → Refuses e r → Refuses e (r >>= f)
-refuses_then (ColumnNotFound n) r f h = ap (λ q. q >>= f) h
-refuses_then (Duplicate n) r f h = ap (λ q. q >>= f) h
-refuses_then (InvalidOperation w) r f h = ap (λ q. q >>= f) h
-refuses_then (ComputeError w) r f h = ap (λ q. q >>= f) h
-refuses_then OutOfBounds r f h = ap (λ q. q >>= f) h
-refuses_then ShapeMismatch r f h = ap (λ q. q >>= f) h
-refuses_then SchemaMismatch r f h = ap (λ q. q >>= f) h
-refuses_then OutOfMemory r f h = tt
 
 -- the cell of a column that was made is the one that is expected
 pub made_cell : (result : Result Cell PxError) (made : Result Series PxError) (u v : Bool) (e f : Result Series PxError) (x : Result NamedCell PxError) → u ≡ v → e ≡ f → as_cell v f ≡ x

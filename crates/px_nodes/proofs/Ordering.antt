@@ -1,11 +1,10 @@
 -- Rows of a column in a sorted order.
-use Rattle.std.proofs.Common.{◌≡◌, ℕ, zero, suc, ◌+◌, ◌<◌, ◌==◌, Bool, true, false, ◌&&◌, cond, if◌then◌else◌, List, [], ◌∷◌, ◌++◌, Some, Result, Ok, Err, length, map, fold, zip, nat_lt, refl, sym, ◌∙◌, ap, subst, arith, append-nil, append_assoc, length-append, replicate, ◌≤◌, ◌-◌, ◌||◌, take, drop, get_or}
+use Rattle.std.proofs.Common.{◌≡◌, ℕ, zero, suc, ◌+◌, ◌<◌, ◌==◌, Bool, true, false, ◌&&◌, cond, List, [], ◌∷◌, ◌++◌, Result, Ok, Err, length, map, fold, zip, nat_lt, refl, sym, ◌∙◌, ap, subst, arith, append-nil, append_assoc, length-append, replicate, ◌≤◌, ◌-◌, ◌||◌, take, drop, get_or, if◌then◌else◌}
 use Rattle.std.specs.List.{list_all, list_any, range_with_len}
 use Rattle.std.specs.Ordering.{is_lt}
 use Rattle.std.proofs.lemmas.Bool.Decides.{nat_tests}
 use Rattle.std.proofs.lemmas.List.{length-replicate, take_all}
 use Rattle.std.proofs.lemmas.List.FromFn.{length-range_with_len}
-use Rattle.px_column.specs.Column.{all_within, taken, taken_at}
 use Rattle.px_column.specs.Order.{arg_sorted, options_with, flags_for, row_cmp, sort_keys, sorted_rows, with_row}
 use Rattle.px_column.specs.Prelude.{Refuses, Slot, Series, is_list_kind, slot_at}
 use Rattle.px_column.specs.Result.{◌>>=◌}
@@ -13,7 +12,7 @@ use Rattle.px_column.specs.Rows.{with_rows}
 use Rattle.px_column.specs.Sorted.{rows_sorted_by}
 use Rattle.px_value.specs.declared.error.InvalidWhy.TheVariants.{ListKey}
 use Rattle.px_value.specs.declared.error.PxError.{PxError}
-use Rattle.px_value.specs.declared.error.PxError.TheVariants.{InvalidOperation, OutOfBounds, ShapeMismatch}
+use Rattle.px_value.specs.declared.error.PxError.TheVariants.{InvalidOperation, ShapeMismatch}
 use Rattle.px_value.specs.declared.sort_options.SortMultipleOptions.{SortMultipleOptions}
 use Rattle.px_value.specs.declared.sort_options.SortOptions.{SortOptions}
 use Rattle.px_value.proofs.FitLaws.{both}
@@ -22,7 +21,7 @@ use Rattle.px_frame.specs.Frame.{are_below, slots_at}
 use Rattle.px_frame.specs.Spread.{NamedCell, before_all, column_of_cell, spread, spread_all, with_slots}
 use Rattle.px_tree.specs.Node.{sort_by_cell, sort_cell, spread_keys}
 use Rattle.px_nodes.specs.Named.{as_cell, cells_in, kinds_of, sort_by_named, sort_named, sorted_column, sorted_column_by, under}
-use Rattle.px_nodes.proofs.Answering.{refuses_then}
+use Rattle.px_value.proofs.Refusing.{refuses_then}
 
 module _ (keys : List (SortOptions × List Slot)) where
   length_with : (js : List ℕ) (i : ℕ) → length (with_row keys js i) ≡ suc (length js)

@@ -9,7 +9,7 @@ use Rattle.px_value.specs.Series.{slot_at}
 use Rattle.px_value.specs.declared.cast_options.CastOptions.{CastOptions}
 use Rattle.px_value.specs.declared.cast_options.CastOptions.TheVariants.{Strict, NonStrict, Overflowing}
 use Rattle.px_value.specs.declared.error.PxError.{PxError}
-use Rattle.px_value.specs.declared.error.PxError.TheVariants.{ColumnNotFound, Duplicate, InvalidOperation, ComputeError, OutOfBounds, ShapeMismatch, SchemaMismatch, OutOfMemory}
+use Rattle.px_value.proofs.Refusing.{refuses_too}
 use Rattle.px_operation.specs.Cast.{before, lost, list_slot, number_cast, number_written, truth_number, truth_text, written_cast, boolean_cast, bytes_cast, integer_cast, text_cast, datum_cast, items_cast, cast_slot, cast_slots}
 use Rattle.px_operation.specs.Operator.{is_integer_kind, is_zero}
 use Rattle.px_operation.specs.Wrap.{is_in_range, wrapped_in}
@@ -57,14 +57,7 @@ cast_row to o done xs i s h e =
 
 -- the refusal of an element is that of its list
 pub refused_row : (e : PxError) (done : List Slot) (s : Result Slot PxError) (r : Result Slots PxError) → Refuses e s → Refuses e (after done (before s r))
-refused_row (ColumnNotFound n) done s r h = ap (λ (q : Result Slot PxError). after done (before q r)) h
-refused_row (Duplicate n) done s r h = ap (λ (q : Result Slot PxError). after done (before q r)) h
-refused_row (InvalidOperation w) done s r h = ap (λ (q : Result Slot PxError). after done (before q r)) h
-refused_row (ComputeError w) done s r h = ap (λ (q : Result Slot PxError). after done (before q r)) h
-refused_row OutOfBounds done s r h = ap (λ (q : Result Slot PxError). after done (before q r)) h
-refused_row ShapeMismatch done s r h = ap (λ (q : Result Slot PxError). after done (before q r)) h
-refused_row SchemaMismatch done s r h = ap (λ (q : Result Slot PxError). after done (before q r)) h
-refused_row OutOfMemory done s r h = tt
+refused_row e done s r = refuses_too e s (after done (before s r)) (ap (λ (q : Result Slot PxError). after done (before q r)))
 
 -- an element weighs no more than its list
 pub weight_at : (xs : List Slot) (i : ℕ) → slot_weight (slot_at xs i) ≤ list_weight xs

@@ -1,10 +1,11 @@
 -- The names and types of columns that are added to a schema, where they are new.
-use Rattle.std.proofs.Common.{◌≡◌, ℕ, ◌+◌, ◌<◌, Bool, true, false, List, [], ◌∷◌, ◌++◌, Option, Some, None, Ok, Err, drop, fold, get_or, length, option_map, sym, ◌∙◌, ap, if◌then◌else◌, ◌||◌, cond, Result, refl}
+use Rattle.std.proofs.Common.{◌≡◌, ℕ, ◌+◌, ◌<◌, Bool, true, false, List, [], ◌∷◌, ◌++◌, Option, Some, None, Ok, Err, drop, fold, get_or, length, option_map, sym, ◌∙◌, ap, ◌||◌, cond, refl, if◌then◌else◌}
 use Rattle.std.specs.Prelude.{find, is_some, not}
 use Rattle.std.proofs.lemmas.List.{at_drop_more}
+use Rattle.px_value.proofs.Refusing.{no_refusal}
 use Rattle.px_column.specs.Prelude.{Refuses, Series}
 use Rattle.px_value.specs.declared.error.PxError.{PxError}
-use Rattle.px_value.specs.declared.error.PxError.TheVariants.{ColumnNotFound, ComputeError, Duplicate, InvalidOperation, OutOfBounds, OutOfMemory, SchemaMismatch, ShapeMismatch}
+use Rattle.px_value.specs.declared.error.PxError.TheVariants.{Duplicate, OutOfMemory}
 use Rattle.px_frame.specs.External.{with_field}
 use Rattle.px_frame.specs.Schema.{FieldKind, column_field, has_field_name, is_field_name}
 use Rattle.px_tree.specs.Typing.{Scope}
@@ -18,17 +19,6 @@ field_there n (f ∷ fields) = by (name_eq n f.name) (field_there n fields)
     by : (b : Bool) → is_some (find (has_field_name n) fields) ≡ is_field_name n fields → is_some (cond b (Some f) (find (has_field_name n) fields)) ≡ (b || is_field_name n fields)
     by true rest = refl
     by false rest = rest
-
--- where a value is expected, memory was wanting
-pub no_refusal : {Y : Type 0} (e : PxError) (r : Result Y PxError) (y : Y) → r ≡ Ok y → Refuses e r → e ≡ OutOfMemory
-no_refusal OutOfMemory r y o h = refl
-no_refusal (ColumnNotFound m) r y o h = cc
-no_refusal (Duplicate m) r y o h = cc
-no_refusal (InvalidOperation w) r y o h = cc
-no_refusal (ComputeError w) r y o h = cc
-no_refusal OutOfBounds r y o h = cc
-no_refusal ShapeMismatch r y o h = cc
-no_refusal SchemaMismatch r y o h = cc
 
 -- nothing was found
 pub none_found : {X : Type 0} (view : X → FieldKind) (r : Option X) (o : Option FieldKind) (b : Bool) → option_map view r ≡ o → is_some r ≡ not b → b ≡ true → o ≡ None

@@ -7,6 +7,7 @@ use Rattle.std.proofs.lemmas.Bool.Decides.{nat_tests}
 use Rattle.std.proofs.lemmas.List.{length-map}
 use Rattle.std.proofs.lemmas.List.Folds.{flat_map-map}
 use Rattle.std.proofs.lemmas.List.FromFn.{length-range_with_len}
+use Rattle.px_value.proofs.Refusing.{refuses_or}
 use Rattle.px_column.specs.Prelude.{Answers, lists, Series, slot_at, Slot}
 use Rattle.px_column.specs.Option.{each}
 use Rattle.px_column.specs.Result.{◌>>=◌}
@@ -36,7 +37,7 @@ use Rattle.px_group_answers.specs.OnGroups.{AreCellsOn, IsContextOf, IsGroupCaus
 use Rattle.px_group_answers.proofs.Above.{counts_in_size}
 use Rattle.px_steps.specs.Finds.{Finds, IsAccepted, Lacks, agg_faults, misfit_fault, part_faults, part_frames}
 use Rattle.px_steps.specs.Plain.{aggregated_on, grouped_kind, value_on_part}
-use Rattle.px_steps.proofs.Selected.{cell_sound, refuses_or, swapped}
+use Rattle.px_steps.proofs.Selected.{cell_sound, swapped}
 use Rattle.px_steps.proofs.Found.{leaves_found, misfits_named}
 
 -- the values of an expression on the frames of some parts

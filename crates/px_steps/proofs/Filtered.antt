@@ -24,7 +24,7 @@ use Rattle.px_steps.specs.Plain.{columns_made, first_of, first_refusal, height_f
 use Rattle.px_tree.proofs.KindLaws.{none_left as nil_left, none_right as nil_right}
 use Rattle.px_steps.proofs.Columns.{and_then_some}
 use Rattle.px_steps.proofs.GroupStep.{spread_made}
-use Rattle.px_scope.proofs.Fields.{no_refusal}
+use Rattle.px_value.proofs.Refusing.{no_refusal}
 use Rattle.px_steps.proofs.Grouping.{value_there}
 use Rattle.px_steps.proofs.Selected.{refusal_cause}
 use Rattle.px_steps.proofs.Misfits.{misfit_first, no_misfits, one_apart, one_left, one_right}

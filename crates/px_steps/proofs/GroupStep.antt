@@ -32,17 +32,17 @@ use Rattle.px_steps.specs.Finds.{is_key}
 use Rattle.px_steps.specs.Causes.{IsStepCause, StepAnswers}
 use Rattle.px_steps.specs.Finds.{Finds, IsAccepted, Lacks, agg_faults, key_faults, misfit_fault, part_faults, part_frames, repeat_beside, typed_group_refusals, typed_key_refusals}
 use Rattle.px_document.specs.Form.{with_front}
-use Rattle.px_steps.specs.Meets.{IsFirst}
+use Rattle.px_steps.specs.Meets.{IsFirst, unless_refused}
 use Rattle.px_steps.specs.Plain.{agg_refusals, aggregated_on, columns_on, first_of, frame_refusals, frames_by, greatest, grouped_kind, height_fault, key_on, key_refusals, key_values, named_value, no_key_refusal, refused_by, repeat_refusal, step_faults, step_refusals, value_on_part, group_frames, misfit_faults, with_columns}
 use Rattle.px_tree.specs.Step.{group}
 use Rattle.px_steps.proofs.Columns.{all_true, and_then_some, heights_of_keys, keys_of_groups, names_of_keys, rows_of_groups}
 use Rattle.px_frame.proofs.LookLaws.{has_length}
 use Rattle.px_frame.proofs.LookLaws.{even_from}
-use Rattle.px_scope.proofs.Fields.{no_refusal}
+use Rattle.px_value.proofs.Refusing.{no_refusal, refuses_or}
 use Rattle.px_steps.proofs.Grouping.{accepted_lacks, value_there}
-use Rattle.px_steps.proofs.Selected.{name_kept, once_none, refusal_cause, refuses_or}
+use Rattle.px_steps.proofs.Selected.{name_kept, once_none, refusal_cause}
 use Rattle.px_steps.proofs.Misfits.{faults_apart, faults_sound, misfit_aggs, misfit_keys, no_misfits, no_misfits_both, one_apart, one_left, one_right}
-use Rattle.px_steps.proofs.Named.{IsFirst_append}
+use Rattle.px_steps.proofs.Named.{IsFirst_append, refuses_none}
 use Rattle.px_tree.proofs.KindLaws.{none_left as nil_left, none_right as nil_right}
 use Rattle.std.proofs.lemmas.List.{append-nil as append_nil, map-append as map_append}
 use Rattle.px_value.proofs.EachLaws.{each_maps}
@@ -80,11 +80,7 @@ pub repeat_keys : (e : PxError) (keys aggs : List Tree) → IsFirst e (repeat_be
 repeat_keys e keys aggs h = by (first_repeat [] (map name_of keys)) refl h
   where
     by : (o : Option (List ℕ)) → first_repeat [] (map name_of keys) ≡ o → IsFirst e (option_map_or (λ n. Duplicate n ∷ []) o []) → IsFirst e (repeat_refusal (keys ++ aggs))
-    by None q f = nothing e f
-      where
-        nothing : (e : PxError) → IsFirst e [] → IsFirst e (repeat_refusal (keys ++ aggs))
-        nothing OutOfMemory f = tt
-        nothing _ f = cc
+    by None q f = refuses_none e tt (repeat_refusal (keys ++ aggs)) f
     by (Some n) q f =
         let same : first_repeat [] (map name_of (keys ++ aggs)) ≡ Some n = ap (first_repeat []) (map_append name_of keys aggs) ∙ repeat_stays [] (map name_of keys) (map name_of aggs) n q in
         subst (λ (o : Option (List ℕ)). IsFirst e (option_map_or (λ m. Duplicate m ∷ []) o [])) (sym same) f
@@ -397,7 +393,7 @@ no_length : (n : ℕ) → (n == 0) ≡ true → n ≡ 0
 no_length n h = grind (arith, nat_tests)
 
 -- the first refusal of a step: there is no key, or the keys', the aggregations' or the names' first one
-pub key_missing : (keys : List Expr) (aggs : List Tree) (scope : Scope) → (length keys == 0) ≡ true → first_of (typed_group_refusals scope (map tree keys) aggs) ≡ Some (ComputeError NoKey)
+pub key_missing : (keys : List Expr) (aggs : List Tree) (scope : Scope) → (length keys == 0) ≡ true → unless_refused (typed_group_refusals scope (map tree keys) aggs) tt ≡ Err (ComputeError NoKey)
 key_missing [] aggs scope h = refl
 key_missing (k ∷ keys) aggs scope h = absurd (omega (arith, no_length (length (k ∷ keys)) h))
 

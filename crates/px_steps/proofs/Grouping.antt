@@ -1,9 +1,9 @@
 -- What is found of expressions that are not refused.
 use Rattle.std.proofs.Common.{◌≡◌, inl, ℕ, List, [], ◌∷◌, ◌++◌, Option, Some, None, Result, Ok, Err, option_map, option_and_then, refl, sym, ◌∙◌, ap, subst}
-use Rattle.px_column.specs.Prelude.{Answers, Refuses, Kind}
+use Rattle.px_column.specs.Prelude.{Answers, Kind}
 use Rattle.px_value.specs.declared.error.PxError.{PxError}
-use Rattle.px_value.specs.declared.error.PxError.TheVariants.{OutOfMemory, ColumnNotFound, Duplicate, InvalidOperation, ComputeError, OutOfBounds, ShapeMismatch, SchemaMismatch}
-use Rattle.px_scope.proofs.Fields.{no_refusal}
+use Rattle.px_value.specs.declared.error.PxError.TheVariants.{OutOfMemory}
+use Rattle.px_value.proofs.Refusing.{no_refusal}
 use Rattle.px_expr.specs.Plan.{planned_over}
 use Rattle.px_answers.specs.Planned.{Planned}
 use Rattle.px_answers.specs.Value.{IsCause, IsCellOf, causes_on}
@@ -18,20 +18,13 @@ use Rattle.px_tree.specs.Value.{faults_on, value_on}
 use Rattle.px_tree.specs.declared.context.Context.{Context}
 use Rattle.px_tree.specs.declared.context.Context.TheVariants.{Default}
 use Rattle.px_steps.specs.Finds.{Finds, IsAccepted, Lacks, misfit_fault}
-use Rattle.px_steps.specs.Meets.{IsFirst}
+use Rattle.px_steps.specs.Meets.{IsFirst, unless_refused}
 use Rattle.px_steps.specs.Plain.{named_value}
 use Rattle.px_steps.proofs.Selected.{cause_lacks, causes_told, cell_fits, lacks_swapped}
 
 -- where there is no refusal, memory was wanting
 pub no_first : (e : PxError) (refusals : List PxError) → refusals ≡ [] → IsFirst e refusals → e ≡ OutOfMemory
-no_first OutOfMemory refusals n h = refl
-no_first (ColumnNotFound m) refusals n h = cc
-no_first (Duplicate m) refusals n h = cc
-no_first (InvalidOperation w) refusals n h = cc
-no_first (ComputeError w) refusals n h = cc
-no_first OutOfBounds refusals n h = cc
-no_first ShapeMismatch refusals n h = cc
-no_first SchemaMismatch refusals n h = cc
+no_first e refusals n h = no_refusal e (unless_refused refusals tt) tt (ap (λ es. unless_refused es tt) n) h
 
 -- what is found where there is a value and no fault
 pub finds_same : {X : Type 0} (r : Result X PxError) (y : X) (meant : Option X) (faults : List PxError) (n : ℕ) → Answers r (Ok y) → meant ≡ Some y → faults ≡ [] → Finds r meant faults n

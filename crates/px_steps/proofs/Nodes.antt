@@ -1,5 +1,5 @@
 -- Nodes of expressions: which type they have, and that they are planned and not refused.
-use Rattle.std.proofs.Common.{◌≡◌, inl, inr, Bool, true, false, not, List, [], ◌∷◌, ◌++◌, Option, Some, None, Ok, map, refl, sym, ◌∙◌, ap, subst}
+use Rattle.std.proofs.Common.{◌≡◌, inl, inr, Bool, true, false, not, List, [], ◌∷◌, ◌++◌, Option, Some, None, Ok, Err, map, refl, sym, ◌∙◌, ap, subst}
 use Rattle.std.specs.List.{flat_map}
 use Rattle.px_column.specs.Prelude.{Kind}
 use Rattle.px_value.specs.declared.error.PxError.{PxError}
@@ -15,7 +15,7 @@ use Rattle.px_tree.specs.declared.context.Context.TheVariants.{Default}
 use Rattle.px_tree.proofs.KindLaws.{none_left as nil_left, none_right as nil_right}
 use Rattle.px_steps.specs.Finds.{AreAccepted, GroupPlans, IsAccepted, group_plans, node_tree, plans_over}
 use Rattle.px_steps.specs.declared.group_step.GroupNodes.{GroupNodes}
-use Rattle.px_steps.specs.Plain.{first_of}
+use Rattle.px_steps.specs.Meets.{unless_refused}
 use Rattle.px_steps.proofs.Members.{In}
 
 -- a type that is found is the expression's
@@ -37,8 +37,8 @@ module _ (t : Tree) (scope : Scope) (none : refusals_of t scope Default ≡ []) 
   type_passes h = told true h
 
   -- and another one is
-  pub type_fails : test k ≡ false → first_of (refusals_of t scope Default ++ refused_where (fails test (kind_in t scope)) e) ≡ Some e
-  type_fails h = ap first_of (told false h)
+  pub type_fails : test k ≡ false → unless_refused (refusals_of t scope Default ++ refused_where (fails test (kind_in t scope)) e) tt ≡ Err e
+  type_fails h = ap (λ es. unless_refused es tt) (told false h)
 
 -- a planned expression among some is not refused
 pub in_accepted : (frame : Frame) (place : Context) (ps : List Planned) (p : Planned) → In p ps → AreAccepted ps frame place → IsAccepted p frame place

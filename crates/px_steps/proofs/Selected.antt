@@ -5,7 +5,8 @@ use Rattle.std.specs.List.{filter_map, flat_map, sum_by}
 use Rattle.std.proofs.lemmas.List.Sums.{sum_by-cons}
 use Rattle.std.specs.Option.{option_map_or}
 use Rattle.std.specs.Result.{result_ok}
-use Rattle.px_column.specs.Prelude.{Answers, AnswersBy, Refuses, Kind, Series}
+use Rattle.px_value.proofs.Refusing.{no_refusal, refuses_or}
+use Rattle.px_column.specs.Prelude.{Answers, AnswersBy, Kind, Series}
 use Rattle.px_column.specs.Option.{each}
 use Rattle.px_column.specs.Result.{◌>>=◌}
 use Rattle.px_value.specs.declared.error.PxError.{PxError}
@@ -174,14 +175,12 @@ least_ticks scope (t ∷ ts) =
 
 -- a refusal that is told is the first one, or memory was wanting
 pub first_cause : (e : PxError) (refusals : List PxError) → IsFirst e refusals → (e ≡ OutOfMemory) ⊎ (first_of refusals ≡ Some e)
-first_cause OutOfMemory refusals h = inl refl
-first_cause (ColumnNotFound n) refusals h = inr h
-first_cause (Duplicate n) refusals h = inr h
-first_cause (InvalidOperation w) refusals h = inr h
-first_cause (ComputeError w) refusals h = inr h
-first_cause OutOfBounds refusals h = inr h
-first_cause ShapeMismatch refusals h = inr h
-first_cause SchemaMismatch refusals h = inr h
+first_cause e [] h = inl (no_refusal e (Ok tt) tt refl h)
+first_cause e (x ∷ refusals) h = by (refuses_or {Y = Unit {0}} e (Err x) h)
+  where
+    by : (e ≡ OutOfMemory) ⊎ (◌≡◌ {A = Result (Unit {0}) PxError} (Err x) (Err e)) → (e ≡ OutOfMemory) ⊎ (Some x ≡ Some e)
+    by (inl m) = inl m
+    by (inr f) = inr (cc f)
 
 -- the first refusal of a step is a cause
 pub refusal_cause : (e : PxError) (s : PlainStep) (frame : Frame) → IsFirst e (step_refusals s frame) → (e ≡ OutOfMemory) ⊎ IsStepCause e s frame
@@ -245,17 +244,6 @@ names_kept frame ts cells h = each_maps (named_value frame) (λ c. c.name) name_
 pub once_none : (o : Option (List ℕ)) → option_map_or (λ n. Duplicate n ∷ []) o [] ≡ [] → o ≡ None
 once_none None h = refl
 once_none (Some n) h = cc
-
--- memory was wanting, or a refusal that is told
-pub refuses_or : {Y : Type 0} (e : PxError) (r : Result Y PxError) → Refuses e r → (e ≡ OutOfMemory) ⊎ (r ≡ Err e)
-refuses_or OutOfMemory r h = inl refl
-refuses_or (ColumnNotFound n) r h = inr h
-refuses_or (Duplicate n) r h = inr h
-refuses_or (InvalidOperation w) r h = inr h
-refuses_or (ComputeError w) r h = inr h
-refuses_or OutOfBounds r h = inr h
-refuses_or ShapeMismatch r h = inr h
-refuses_or SchemaMismatch r h = inr h
 
 -- the frame of the values, or the lists that are not as long
 pub selected : (ts : List Tree) (frame : Frame) (cells : List NamedCell) (r : Result (List Series) PxError) → flat_map (frame_refusals frame) ts ≡ [] → repeat_refusal ts ≡ []

@@ -1,19 +1,16 @@
 -- How the answer of a step is told: by its refusals and its plain meaning. Want of memory is always allowed.
-use Rattle.std.specs.Prelude.{◌≡◌, List, [], Option, Some, Result, Ok, Err}
+use Rattle.std.specs.Prelude.{◌≡◌, List, [], ◌∷◌, Option, Some, Result, Ok, Err}
+use Rattle.px_column.specs.Prelude.{Refuses}
 use Rattle.px_value.specs.declared.error.PxError.{PxError}
-use Rattle.px_value.specs.declared.error.PxError.TheVariants.{ColumnNotFound, Duplicate, InvalidOperation, ComputeError, OutOfBounds, ShapeMismatch, SchemaMismatch, OutOfMemory}
-use Rattle.px_steps.specs.Plain.{first_of}
+
+-- what is there, unless there are refusals, of which the first decides
+abbrev pub unless_refused : {X : Type 0} → List PxError → X → Result X PxError
+unless_refused [] x = Ok x
+unless_refused (e ∷ refusals) x = Err e
 
 -- memory was wanting, or this is the first refusal
 abbrev pub IsFirst : PxError → List PxError → Type 0
-IsFirst OutOfMemory refusals = Unit {0}
-IsFirst (ColumnNotFound n) refusals = first_of refusals ≡ Some (ColumnNotFound n)
-IsFirst (Duplicate n) refusals = first_of refusals ≡ Some (Duplicate n)
-IsFirst (InvalidOperation w) refusals = first_of refusals ≡ Some (InvalidOperation w)
-IsFirst (ComputeError w) refusals = first_of refusals ≡ Some (ComputeError w)
-IsFirst OutOfBounds refusals = first_of refusals ≡ Some OutOfBounds
-IsFirst ShapeMismatch refusals = first_of refusals ≡ Some ShapeMismatch
-IsFirst SchemaMismatch refusals = first_of refusals ≡ Some SchemaMismatch
+IsFirst e refusals = Refuses e (unless_refused refusals tt)
 
 -- there was no refusal and the answer, seen by view, is the plain one; or the first refusal was answered
 abbrev pub MeetsBy : {X Y : Type 0} → (X → Y) → Result X PxError → List PxError → Option Y → Type 0

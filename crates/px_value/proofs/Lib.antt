@@ -1,4 +1,5 @@
-pub mod OrderRows
+pub mod EachLaws
 pub mod FitLaws
 pub mod LengthLaws
-pub mod EachLaws
+pub mod OrderRows
+pub mod Refusing

@@ -8,15 +8,16 @@ use Rattle.px_column.specs.Option.{each}
 use Rattle.px_column.specs.Prelude.{Answers, Series}
 use Rattle.px_value.specs.declared.error.PxError.{PxError}
 use Rattle.px_value.specs.declared.error.ComputeWhy.TheVariants.{NoKey}
-use Rattle.px_value.specs.declared.error.PxError.TheVariants.{ColumnNotFound, Duplicate, InvalidOperation, ComputeError, OutOfBounds, ShapeMismatch, SchemaMismatch, OutOfMemory}
+use Rattle.px_value.specs.declared.error.PxError.TheVariants.{Duplicate, ComputeError, ShapeMismatch}
 use Rattle.px_frame.specs.External.{alone}
 use Rattle.px_frame.specs.Frame.{first_repeat, frame_of, height_of, is_even, names_of, unless_repeated}
 use Rattle.px_frame.specs.Parts.{parts_of}
 use Rattle.px_tree.specs.Shape.{name_of}
 use Rattle.px_tree.specs.Step.{group}
 use Rattle.px_tree.specs.Tree.{Tree, column}
-use Rattle.px_steps.specs.Meets.{Meets}
-use Rattle.px_steps.specs.Plain.{agg_refusals, aggregated_on, columns_made, columns_on, first_of, key_on, key_refusals, key_values, no_key_refusal, repeat_refusal, step_refusals}
+use Rattle.px_steps.specs.Meets.{Meets, unless_refused}
+use Rattle.px_steps.proofs.Named.{refuses_first, refuses_none}
+use Rattle.px_steps.specs.Plain.{agg_refusals, aggregated_on, columns_made, columns_on, key_on, key_refusals, key_values, no_key_refusal, repeat_refusal, step_refusals}
 use Rattle.px_steps.proofs.GroupStep.{even_made, key_names, names_made}
 
 -- columns that are made of the parts
@@ -30,25 +31,11 @@ columns_laid frame by front values ps aggs p f a =
 module _ (columns : List Series) where
   told_frame : (r : Result (List Series) PxError) → Answers r (Ok columns) → Meets r [] (Some columns)
   told_frame (Ok f) h = (refl, cc)
-  told_frame (Err (ColumnNotFound n)) h = cc
-  told_frame (Err (Duplicate n)) h = cc
-  told_frame (Err (InvalidOperation w)) h = cc
-  told_frame (Err (ComputeError w)) h = cc
-  told_frame (Err OutOfBounds) h = cc
-  told_frame (Err ShapeMismatch) h = cc
-  told_frame (Err SchemaMismatch) h = cc
-  told_frame (Err OutOfMemory) h = tt
+  told_frame (Err e) h = refuses_none e columns [] h
 
   told_repeat : (n : List ℕ) (r : Result (List Series) PxError) → Answers r (Err (Duplicate n)) → Meets r (Duplicate n ∷ []) (Some columns)
   told_repeat n (Ok f) h = cc
-  told_repeat n (Err (ColumnNotFound m)) h = cc
-  told_repeat n (Err (Duplicate m)) h = let same : n ≡ m = cc in ap (λ k. Some (Duplicate k)) same
-  told_repeat n (Err (InvalidOperation w)) h = cc
-  told_repeat n (Err (ComputeError w)) h = cc
-  told_repeat n (Err OutOfBounds) h = cc
-  told_repeat n (Err ShapeMismatch) h = cc
-  told_repeat n (Err SchemaMismatch) h = cc
-  told_repeat n (Err OutOfMemory) h = tt
+  told_repeat n (Err e) h = refuses_first (List Series) e (Duplicate n) [] h
 
   told : (repeat : Option (List ℕ)) (r : Result (List Series) PxError) → Answers r (unless_repeated repeat (Ok columns)) → Meets r (option_map_or (λ n. Duplicate n ∷ []) repeat []) (Some columns)
   told None r h = told_frame r h
@@ -79,6 +66,6 @@ some_key (k ∷ keys) h = refl
 no_length : (n : ℕ) → (n == 0) ≡ true → n ≡ 0
 no_length n h = grind (arith, nat_tests)
 
-pub no_key : (keys : List (List ℕ)) (aggs : List Tree) (frame : List Series) → (length keys == 0) ≡ true → first_of (step_refusals (group (map column keys) aggs None) (alone frame)) ≡ Some (ComputeError NoKey)
+pub no_key : (keys : List (List ℕ)) (aggs : List Tree) (frame : List Series) → (length keys == 0) ≡ true → unless_refused (step_refusals (group (map column keys) aggs None) (alone frame)) tt ≡ Err (ComputeError NoKey)
 no_key [] aggs frame h = refl
 no_key (k ∷ keys) aggs frame h = absurd (omega (arith, no_length (length (k ∷ keys)) h))

@@ -21,10 +21,10 @@ use Rattle.px_tree.specs.Shape.{name_of}
 use Rattle.px_tree.specs.Typing.{kind_in}
 use Rattle.px_tree.specs.Value.{value_on}
 use Rattle.px_tree.specs.Tree.{Tree, column, agg}
-use Rattle.px_steps.specs.Meets.{Meets, MeetsBy}
+use Rattle.px_steps.specs.Meets.{Meets, MeetsBy, unless_refused}
 use Rattle.px_steps.proofs.Named.{refuses_none}
 use Rattle.px_value.specs.declared.data_type.DataType.{DataType}
-use Rattle.px_steps.specs.Plain.{agg_refusals, aggregated_on, first_of, grouped_kind, key_values, value_on_part}
+use Rattle.px_steps.specs.Plain.{agg_refusals, aggregated_on, grouped_kind, key_values, value_on_part}
 use Rattle.px_vectors.specs.PlainStep.{tree_of, value_at_part}
 use Rattle.px_vectors.specs.declared.plain_step.Aggregation.{Aggregation}
 use Rattle.px_vectors.specs.declared.plain_step.Aggregation.TheVariants.{Sum as Sum_of, Len}
@@ -73,7 +73,7 @@ sum_refused frame n s h e = rw (kind_found frame n s h, e) refl
 
 pub sum_meets : (frame : List Series) (n : List ℕ) (s : Series) (o : Option DataType) → Some s ≡ look n frame → option_map kind_of o ≡ sum_kind s.kind
     → MeetsBy kind_of (ok_or o (InvalidOperation Types)) (agg_refusals (alone frame) (agg Sum (column n))) (kind_in (agg Sum (column n)) (map column_field frame))
-sum_meets frame n s None h k = ap first_of (sum_refused frame n s h (sym k))
+sum_meets frame n s None h k = ap (λ es. unless_refused es tt) (sum_refused frame n s h (sym k))
 sum_meets frame n s (Some d) h k = (sum_passes frame n s (kind_of d) h (sym k), sum_typed frame n s h ∙ sym k)
 
 pub sum_not_found : (frame : List Series) (n : List ℕ) → None ≡ look n frame → agg_refusals (alone frame) (agg Sum (column n)) ≡ ColumnNotFound n ∷ []

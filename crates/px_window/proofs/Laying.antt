@@ -3,10 +3,11 @@ use Rattle.std.proofs.Common.{◌≡◌, ℕ, ◌+◌, ◌^◌, ◌<◌, ◌==�
 use Rattle.std.specs.List.{concat, zip}
 use Rattle.std.proofs.lemmas.Bool.Decides.{nat_tests}
 use Rattle.std.proofs.lemmas.List.{length-map, length-replicate, replicate_more}
+use Rattle.px_value.proofs.Refusing.{only_memory, refuses_same}
 use Rattle.px_column.specs.Prelude.{Answers, Kind, Refuses, Series, Slot}
 use Rattle.px_column.specs.Result.{◌>>=◌}
 use Rattle.px_value.specs.declared.error.PxError.{PxError}
-use Rattle.px_value.specs.declared.error.PxError.TheVariants.{ColumnNotFound, Duplicate, InvalidOperation, ComputeError, OutOfBounds, ShapeMismatch, SchemaMismatch, OutOfMemory}
+use Rattle.px_value.specs.declared.error.PxError.TheVariants.{ComputeError}
 use Rattle.px_value.specs.declared.error.ComputeWhy.TheVariants.{WindowLength}
 use Rattle.px_frame.specs.Cell.{Cell, unit, rows, list_of}
 use Rattle.px_frame.specs.Frame.{series_at}
@@ -27,32 +28,10 @@ part_long p (rows ys) xs e = by (length ys == length p) refl e
     by true h f = let same : xs ≡ ys = cc in ap length same ∙ grind (arith, nat_tests)
     by false h f = absurd (cc)
 
--- only want of memory refuses what is there
-pub only_memory : {X Y : Type 0} (e : PxError) (x : X) (r : Result Y PxError) → Refuses e (Ok x) → Refuses e r
-only_memory (ColumnNotFound n) x r h = absurd (cc)
-only_memory (Duplicate n) x r h = absurd (cc)
-only_memory (InvalidOperation w) x r h = absurd (cc)
-only_memory (ComputeError w) x r h = absurd (cc)
-only_memory OutOfBounds x r h = absurd (cc)
-only_memory ShapeMismatch x r h = absurd (cc)
-only_memory SchemaMismatch x r h = absurd (cc)
-only_memory OutOfMemory x r h = tt
-
--- a refusal is one of any type
-same_error : (X Y : Type 0) (x e : PxError) → Refuses {Y = X} e (Err x) → Refuses {Y = Y} e (Err x)
-same_error X Y x (ColumnNotFound n) h = let same : x ≡ ColumnNotFound n = cc in ap Err same
-same_error X Y x (Duplicate n) h = let same : x ≡ Duplicate n = cc in ap Err same
-same_error X Y x (InvalidOperation w) h = let same : x ≡ InvalidOperation w = cc in ap Err same
-same_error X Y x (ComputeError w) h = let same : x ≡ ComputeError w = cc in ap Err same
-same_error X Y x OutOfBounds h = let same : x ≡ OutOfBounds = cc in ap Err same
-same_error X Y x ShapeMismatch h = let same : x ≡ ShapeMismatch = cc in ap Err same
-same_error X Y x SchemaMismatch h = let same : x ≡ SchemaMismatch = cc in ap Err same
-same_error X Y x OutOfMemory h = tt
-
 -- what is refused before something is made of it is refused before anything else
 pub refused_before : {X Y Z : Type 0} (e : PxError) (r : Result X PxError) (f : X → Y) (g : X → Result Z PxError) → Refuses e (r >>= λ x. Ok (f x)) → Refuses e (r >>= g)
 refused_before e (Ok x) f g h = only_memory e (f x) (g x) h
-refused_before {X} {Y} {Z} e (Err x) f g h = same_error Y Z x e h
+refused_before {X} {Y} {Z} e (Err x) f g h = refuses_same Y Z x e h
 
 -- the cells of parts with their type
 pub cells_back : (k : Kind) (cs : List Cell) → map (λ (p : Part). p.cell) (map (part k) cs) ≡ cs

@@ -3,9 +3,8 @@ use Rattle.std.proofs.Common.{◌≡◌, ◌⊎◌, inl, inr, ℕ, ◌^◌, ◌�
 use Rattle.std.specs.List.{flat_map, list_any}
 use Rattle.std.proofs.lemmas.Grind.{flat_map-append}
 use Rattle.std.proofs.lemmas.List.Folds.{list_any-append}
-use Rattle.px_value.specs.declared.error.ComputeWhy.TheVariants.{TooLong}
 use Rattle.px_value.specs.declared.error.PxError.{PxError}
-use Rattle.px_value.specs.declared.error.PxError.TheVariants.{ComputeError, ShapeMismatch, OutOfMemory}
+use Rattle.px_value.specs.declared.error.PxError.TheVariants.{ShapeMismatch}
 use Rattle.px_value.specs.declared.sort_options.SortOptions.{SortOptions}
 use Rattle.px_frame.specs.Cell.{Cell}
 use Rattle.px_frame.specs.External.{Frame, rows_of_frame, scope_of}
@@ -17,7 +16,8 @@ use Rattle.px_tree.specs.Typing.{Scope, all_refusals_of, kind_in, or_first, orde
 use Rattle.px_tree.specs.Value.{all_faults_on, fault_in, faults_on, made, order_faults_on, outcome_on, parts_on, value_on, window_frames}
 use Rattle.px_tree.specs.declared.context.Context.{Context}
 use Rattle.px_tree.specs.declared.context.Context.TheVariants.{Aggregation, Default}
-use Rattle.px_answers.proofs.Inputs.{IsIn, all_faults_apart, all_none, all_refusals_apart, any_in, both_up, first_up, in_all, no_misfit, one_apart, one_left, one_right, one_split, parts_of, where_up}
+use Rattle.px_answers.proofs.Inputs.{IsIn, all_faults_apart, all_none, all_refusals_apart, any_in, both_up, cause_of, first_up, in_all, no_misfit, one_apart, one_left, one_right, one_split, parts_of, where_up}
+use Rattle.px_answers.proofs.InputLists.{any_cause_of}
 use Rattle.px_answers.specs.Parts.{PlannedWindow, order_columns, plan_columns, plan_order, plan_trees, under, window_plan}
 use Rattle.px_answers.specs.Planned.{Planned}
 use Rattle.px_answers.specs.Value.{IsCause, IsCauseOfAny, IsOneOf, causes_on, finds_misfit, has_misfit_column, unfound_refusal}
@@ -251,19 +251,6 @@ pub in_behind : (p : Planned) (ps qs : List Planned) → IsIn p qs → IsIn p (p
 in_behind p [] qs i = i
 in_behind p (x ∷ ps) qs i = inr (in_behind p ps qs i)
 
--- a cause of one expression is a cause of another where each size and each other cause is
-cause_up : (e : PxError) (p q : Planned) (frame : Frame) → (2 ^ 32 ≤ size_on p.tree (frame ∷ []) → 2 ^ 32 ≤ size_on q.tree (frame ∷ [])) → (IsOneOf e (causes_on p frame) → IsOneOf e (causes_on q frame)) → IsCause e p frame → IsCause e q frame
-cause_up OutOfMemory p q frame s c h = tt
-cause_up (ComputeError TooLong) p q frame s c h = s h
-cause_up _ p q frame s c h = c h
-
--- and so is one of several
-any_cause_up : (e : PxError) (ps : List Planned) (q : Planned) (frame : Frame) → (2 ^ 32 ≤ sizes_on (plan_trees ps) (frame ∷ []) → 2 ^ 32 ≤ size_on q.tree (frame ∷ []))
-    → (IsOneOf e (flat_map (λ p. causes_on p frame) ps) → IsOneOf e (causes_on q frame)) → IsCauseOfAny e ps frame → IsCause e q frame
-any_cause_up OutOfMemory ps q frame s c h = tt
-any_cause_up (ComputeError TooLong) ps q frame s c h = s h
-any_cause_up _ ps q frame s c h = c h
-
 -- what is one of several is one of a single one of them
 one_of_all : (e : PxError) (g : Planned → List PxError) (ps : List Planned) (goal : Type 0) → ((p : Planned) → IsIn p ps → IsOneOf e (g p) → goal) → IsOneOf e (flat_map g ps) → goal
 one_of_all e g [] goal w h = absurd h
@@ -276,13 +263,13 @@ one_of_all e g (p ∷ ps) goal w h = by (one_of_all e g ps goal (λ q i. w q (in
 -- a cause of a key is the window's
 pub window_key_cause : (e : PxError) (w : PlannedWindow) (frame : Frame) → IsCauseOfAny e w.group_by frame → IsCause e (window_plan w) frame
 window_key_cause e w frame h =
-    any_cause_up e w.group_by (window_plan w) frame (λ (b : 2 ^ 32 ≤ sizes_on (plan_trees w.group_by) (frame ∷ [])). omega (arith, b))
+    any_cause_of e w.group_by (window_plan w) frame (λ (b : 2 ^ 32 ≤ sizes_on (plan_trees w.group_by) (frame ∷ [])). omega (arith, b))
     (one_of_all e (λ (p : Planned). causes_on p frame) w.group_by (IsOneOf e (causes_on (window_plan w) frame)) (λ p i. input_up w frame e p (in_front p w.group_by (order_plans w.order_by) i))) h
 
 -- a cause of what orders the rows is the window's
 pub window_order_cause : (e : PxError) (w : PlannedWindow) (frame : Frame) (o : Planned × SortOptions) → w.order_by ≡ Some o → IsCause e o.0 frame → IsCause e (window_plan w) frame
 window_order_cause e w frame o s h =
-    cause_up e o.0 (window_plan w) frame (λ (b : 2 ^ 32 ≤ size_on o.0.tree (frame ∷ [])). omega (arith, b, ap (λ x. order_size_on (plan_order x) (frame ∷ [])) s))
+    cause_of e o.0 (window_plan w) frame (λ (b : 2 ^ 32 ≤ size_on o.0.tree (frame ∷ [])). omega (arith, b, ap (λ x. order_size_on (plan_order x) (frame ∷ [])) s))
     (input_up w frame e o.0 (in_behind o.0 w.group_by (order_plans w.order_by) (subst (λ (x : Option (Planned × SortOptions)). IsIn o.0 (order_plans x)) (sym s) (inl refl)))) h
 
 -- values of the function on the parts' frames count as the window's

@@ -4,7 +4,7 @@ use Rattle.px_column.specs.Column.{taken}
 use Rattle.px_column.specs.Prelude.{Answers, Refuses}
 use Rattle.px_column.specs.Result.{◌>>=◌}
 use Rattle.px_frame.specs.Unsigned.{places_of}
-use Rattle.px_nodes.proofs.Answering.{refuses_then}
+use Rattle.px_value.proofs.Refusing.{refuses_then}
 use Rattle.px_nodes.proofs.Gathered.{gathered_places}
 use Rattle.px_nodes.proofs.gather.rows_named.Goals as goal
 

@@ -5,7 +5,7 @@ use Rattle.px_column.specs.Prelude.{Answers, Refuses, Series}
 use Rattle.px_column.specs.Result.{◌>>=◌}
 use Rattle.px_frame.specs.Frame.{are_below}
 use Rattle.px_nodes.specs.Named.{sorted_column_by}
-use Rattle.px_nodes.proofs.Answering.{refuses_then}
+use Rattle.px_value.proofs.Refusing.{refuses_then}
 use Rattle.px_nodes.proofs.Ordering.{below_sorted, keys_order, length_sorted, no_key, unsorted}
 use Rattle.px_nodes.proofs.sort_by.sort_column_by.Goals as goal
 

@@ -1,10 +1,10 @@
-use Rattle.std.proofs.Common.{◌≡◌, ◌∙◌, List, ℕ, length, ap, sym, arith, Some}
+use Rattle.std.proofs.Common.{◌≡◌, ◌∙◌, List, ℕ, length, ap, sym, arith, Some, Err}
 use Rattle.std.specs.List.{range_with_len}
 use Rattle.std.proofs.lemmas.List.FromFn.{length-range_with_len}
 use Rattle.px_column.specs.Prelude.{is_list_kind}
 use Rattle.px_frame.specs.Frame.{series_at, slots_at}
 use Rattle.px_value.specs.declared.error.PxError.TheVariants.{ColumnNotFound}
-use Rattle.px_steps.specs.Plain.{first_of}
+use Rattle.px_steps.specs.Meets.{unless_refused}
 use Rattle.px_vectors.proofs.PlainColumns.{all_slots}
 use Rattle.px_vectors.proofs.PlainKeys.{key_found, key_missing, key_of_lists, key_passes}
 use Rattle.px_vectors.proofs.Told.{told}
@@ -29,7 +29,7 @@ returns c =
 
 pub returns-in_default : goal.returns-in_default
 returns-in_default c =
-    ap first_of (key_missing c.args.frame.now c.args.key.now c.in_default.ensures.found) ∙ ap (λ (n : List ℕ). Some (ColumnNotFound n)) (sym (told _ _ c.in_ok-try_clone.ensures))
+    ap (λ es. unless_refused es tt) (key_missing c.args.frame.now c.args.key.now c.in_default.ensures.found) ∙ ap (λ (n : List ℕ). Err (ColumnNotFound n)) (sym (told _ _ c.in_ok-try_clone.ensures))
 
 pub returns-then-is_list : goal.returns-then-is_list
-returns-then-is_list c = ap first_of (key_of_lists c.args.frame.now c.args.key.now c.in-Some.column.now c.in-Some.ensures.found (ap is_list_kind (sym c.dtype.ensures) ∙ sym c.is_list.ensures ∙ c.if-is_list.true))
+returns-then-is_list c = ap (λ es. unless_refused es tt) (key_of_lists c.args.frame.now c.args.key.now c.in-Some.column.now c.in-Some.ensures.found (ap is_list_kind (sym c.dtype.ensures) ∙ sym c.is_list.ensures ∙ c.if-is_list.true))

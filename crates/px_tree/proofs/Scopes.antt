@@ -27,14 +27,14 @@ with_stays n fields s h = by (is_field_name s.name fields)
     by true = refl
     by false = field_stays n fields (column_field s ∷ []) h
 
-scope_stays : (n : List ℕ) (fields : List FieldKind) (external : List Series) → is_some (find (has_field_name n) fields) ≡ true → find (has_field_name n) (fold with_field fields external) ≡ find (has_field_name n) fields
+pub scope_stays : (n : List ℕ) (fields : List FieldKind) (external : List Series) → is_some (find (has_field_name n) fields) ≡ true → find (has_field_name n) (fold with_field fields external) ≡ find (has_field_name n) fields
 scope_stays n fields [] h = refl
 scope_stays n fields (s ∷ external) h =
     let next = with_stays n fields s h in
     scope_stays n (with_field fields s) external (ap is_some next ∙ h) ∙ next
 
 -- a field that is found nowhere is not found beside another's
-missing_stays : (n : List ℕ) (fields : List FieldKind) (s : Series) → find (has_field_name n) fields ≡ None → has_name n s ≡ false → find (has_field_name n) (with_field fields s) ≡ None
+pub missing_stays : (n : List ℕ) (fields : List FieldKind) (s : Series) → find (has_field_name n) fields ≡ None → has_name n s ≡ false → find (has_field_name n) (with_field fields s) ≡ None
 missing_stays n fields s h m = by (is_field_name s.name fields)
   where
     at_end : (fs : List FieldKind) → find (has_field_name n) fs ≡ None → find (has_field_name n) (fs ++ column_field s ∷ []) ≡ None
