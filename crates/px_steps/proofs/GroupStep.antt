@@ -393,7 +393,7 @@ no_length : (n : ℕ) → (n == 0) ≡ true → n ≡ 0
 no_length n h = grind (arith, nat_tests)
 
 -- the first refusal of a step: there is no key, or the keys', the aggregations' or the names' first one
-pub key_missing : (keys : List Expr) (aggs : List Tree) (scope : Scope) → (length keys == 0) ≡ true → unless_refused (typed_group_refusals scope (map tree keys) aggs) tt ≡ Err (ComputeError NoKey)
+pub key_missing : (keys : List Expr) (aggs : List Tree) (scope : Scope) → (length keys == 0) ≡ true → unless_refused (typed_group_refusals scope (map tree keys) aggs) ≡ Err (ComputeError NoKey)
 key_missing [] aggs scope h = refl
 key_missing (k ∷ keys) aggs scope h = absurd (omega (arith, no_length (length (k ∷ keys)) h))
 

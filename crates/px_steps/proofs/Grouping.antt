@@ -24,7 +24,7 @@ use Rattle.px_steps.proofs.Selected.{cause_lacks, causes_told, cell_fits, lacks_
 
 -- where there is no refusal, memory was wanting
 pub no_first : (e : PxError) (refusals : List PxError) → refusals ≡ [] → IsFirst e refusals → e ≡ OutOfMemory
-no_first e refusals n h = no_refusal e (unless_refused refusals tt) tt (ap (λ es. unless_refused es tt) n) h
+no_first e refusals n h = no_refusal e (unless_refused refusals) tt (ap unless_refused n) h
 
 -- what is found where there is a value and no fault
 pub finds_same : {X : Type 0} (r : Result X PxError) (y : X) (meant : Option X) (faults : List PxError) (n : ℕ) → Answers r (Ok y) → meant ≡ Some y → faults ≡ [] → Finds r meant faults n

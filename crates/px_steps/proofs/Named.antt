@@ -11,7 +11,7 @@ refuses_first Y e first rest = refuses_same Y (Unit {0}) first e
 
 -- where a value is expected, only memory can be wanting
 pub refuses_none : {Y : Type 0} (e : PxError) (y : Y) (refusals : List PxError) → Refuses e (Ok y) → IsFirst e refusals
-refuses_none e y refusals = only_memory e y (unless_refused refusals tt)
+refuses_none e y refusals = only_memory e y (unless_refused refusals)
 
 -- the first refusal of some is the first of these and further ones
 pub IsFirst_append : (e : PxError) (some more : List PxError) → IsFirst e some → IsFirst e (some ++ more)

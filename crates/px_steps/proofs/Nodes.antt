@@ -37,8 +37,8 @@ module _ (t : Tree) (scope : Scope) (none : refusals_of t scope Default ≡ []) 
   type_passes h = told true h
 
   -- and another one is
-  pub type_fails : test k ≡ false → unless_refused (refusals_of t scope Default ++ refused_where (fails test (kind_in t scope)) e) tt ≡ Err e
-  type_fails h = ap (λ es. unless_refused es tt) (told false h)
+  pub type_fails : test k ≡ false → unless_refused (refusals_of t scope Default ++ refused_where (fails test (kind_in t scope)) e) ≡ Err e
+  type_fails h = ap unless_refused (told false h)
 
 -- a planned expression among some is not refused
 pub in_accepted : (frame : Frame) (place : Context) (ps : List Planned) (p : Planned) → In p ps → AreAccepted ps frame place → IsAccepted p frame place

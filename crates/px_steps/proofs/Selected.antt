@@ -10,7 +10,7 @@ use Rattle.px_column.specs.Prelude.{Answers, AnswersBy, Kind, Series}
 use Rattle.px_column.specs.Option.{each}
 use Rattle.px_column.specs.Result.{◌>>=◌}
 use Rattle.px_value.specs.declared.error.PxError.{PxError}
-use Rattle.px_value.specs.declared.error.PxError.TheVariants.{ColumnNotFound, Duplicate, InvalidOperation, ComputeError, OutOfBounds, ShapeMismatch, SchemaMismatch, OutOfMemory}
+use Rattle.px_value.specs.declared.error.PxError.TheVariants.{Duplicate, ComputeError, ShapeMismatch, OutOfMemory}
 use Rattle.px_value.specs.declared.error.ComputeWhy.TheVariants.{TooLong}
 use Rattle.px_expr.specs.Plan.{plan_in, planned_over}
 use Rattle.px_answers.specs.Planned.{Planned}
@@ -99,13 +99,7 @@ cells_fit frame (t ∷ ts) (c ∷ cs) none h =
 pub cause_lacks : (e : PxError) (p : Planned) (frame : Frame) → IsCause e p frame → Lacks e (causes_on p frame) (size_on p.tree (frame ∷ []))
 cause_lacks OutOfMemory p frame h = inl refl
 cause_lacks (ComputeError TooLong) p frame h = inr (inr (refl, h))
-cause_lacks (ComputeError w) p frame h = inr (inl h)
-cause_lacks (ColumnNotFound n) p frame h = inr (inl h)
-cause_lacks (Duplicate n) p frame h = inr (inl h)
-cause_lacks (InvalidOperation w) p frame h = inr (inl h)
-cause_lacks OutOfBounds p frame h = inr (inl h)
-cause_lacks ShapeMismatch p frame h = inr (inl h)
-cause_lacks SchemaMismatch p frame h = inr (inl h)
+cause_lacks _ p frame h = inr (inl h)
 
 -- the causes of an expression that is not refused are its faults, and a column beside the frame that has not its height
 pub causes_told : (frame : Frame) (t : Tree) → refusals_of t (scope_of frame) Default ≡ [] → causes_on (planned_over (scope_of frame) t) frame ≡ misfit_fault frame t ++ faults_on t frame

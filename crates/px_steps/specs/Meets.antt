@@ -3,14 +3,14 @@ use Rattle.std.specs.Prelude.{◌≡◌, List, [], ◌∷◌, Option, Some, Resu
 use Rattle.px_column.specs.Prelude.{Refuses}
 use Rattle.px_value.specs.declared.error.PxError.{PxError}
 
--- what is there, unless there are refusals, of which the first decides
-abbrev pub unless_refused : {X : Type 0} → List PxError → X → Result X PxError
-unless_refused [] x = Ok x
-unless_refused (e ∷ refusals) x = Err e
+-- nothing where there is no refusal, else the first one
+abbrev pub unless_refused : List PxError → Result (Unit {0}) PxError
+unless_refused [] = Ok tt
+unless_refused (e ∷ refusals) = Err e
 
 -- memory was wanting, or this is the first refusal
 abbrev pub IsFirst : PxError → List PxError → Type 0
-IsFirst e refusals = Refuses e (unless_refused refusals tt)
+IsFirst e refusals = Refuses e (unless_refused refusals)
 
 -- there was no refusal and the answer, seen by view, is the plain one; or the first refusal was answered
 abbrev pub MeetsBy : {X Y : Type 0} → (X → Y) → Result X PxError → List PxError → Option Y → Type 0

@@ -66,6 +66,6 @@ some_key (k ∷ keys) h = refl
 no_length : (n : ℕ) → (n == 0) ≡ true → n ≡ 0
 no_length n h = grind (arith, nat_tests)
 
-pub no_key : (keys : List (List ℕ)) (aggs : List Tree) (frame : List Series) → (length keys == 0) ≡ true → unless_refused (step_refusals (group (map column keys) aggs None) (alone frame)) tt ≡ Err (ComputeError NoKey)
+pub no_key : (keys : List (List ℕ)) (aggs : List Tree) (frame : List Series) → (length keys == 0) ≡ true → unless_refused (step_refusals (group (map column keys) aggs None) (alone frame)) ≡ Err (ComputeError NoKey)
 no_key [] aggs frame h = refl
 no_key (k ∷ keys) aggs frame h = absurd (omega (arith, no_length (length (k ∷ keys)) h))

@@ -73,7 +73,7 @@ sum_refused frame n s h e = rw (kind_found frame n s h, e) refl
 
 pub sum_meets : (frame : List Series) (n : List ℕ) (s : Series) (o : Option DataType) → Some s ≡ look n frame → option_map kind_of o ≡ sum_kind s.kind
     → MeetsBy kind_of (ok_or o (InvalidOperation Types)) (agg_refusals (alone frame) (agg Sum (column n))) (kind_in (agg Sum (column n)) (map column_field frame))
-sum_meets frame n s None h k = ap (λ es. unless_refused es tt) (sum_refused frame n s h (sym k))
+sum_meets frame n s None h k = ap unless_refused (sum_refused frame n s h (sym k))
 sum_meets frame n s (Some d) h k = (sum_passes frame n s (kind_of d) h (sym k), sum_typed frame n s h ∙ sym k)
 
 pub sum_not_found : (frame : List Series) (n : List ℕ) → None ≡ look n frame → agg_refusals (alone frame) (agg Sum (column n)) ≡ ColumnNotFound n ∷ []

@@ -29,7 +29,7 @@ returns c =
 
 pub returns-in_default : goal.returns-in_default
 returns-in_default c =
-    ap (λ es. unless_refused es tt) (key_missing c.args.frame.now c.args.key.now c.in_default.ensures.found) ∙ ap (λ (n : List ℕ). Err (ColumnNotFound n)) (sym (told _ _ c.in_ok-try_clone.ensures))
+    ap unless_refused (key_missing c.args.frame.now c.args.key.now c.in_default.ensures.found) ∙ ap (λ (n : List ℕ). Err (ColumnNotFound n)) (sym (told _ _ c.in_ok-try_clone.ensures))
 
 pub returns-then-is_list : goal.returns-then-is_list
-returns-then-is_list c = ap (λ es. unless_refused es tt) (key_of_lists c.args.frame.now c.args.key.now c.in-Some.column.now c.in-Some.ensures.found (ap is_list_kind (sym c.dtype.ensures) ∙ sym c.is_list.ensures ∙ c.if-is_list.true))
+returns-then-is_list c = ap unless_refused (key_of_lists c.args.frame.now c.args.key.now c.in-Some.column.now c.in-Some.ensures.found (ap is_list_kind (sym c.dtype.ensures) ∙ sym c.is_list.ensures ∙ c.if-is_list.true))

@@ -9,7 +9,7 @@ use Rattle.px_vectors.proofs.plain_step.type_on.Goals as goal
 pub returns-in_ok-try_clone-in-None : goal.returns-in_ok-try_clone-in-None
 returns-in_ok-try_clone-in-None c =
     rw c.in-Sum.is
-    (ap (λ es. unless_refused es tt) (sum_not_found c.args.frame.now c.in-Sum.name c.in-None.ensures.found) ∙ ap (λ (n : List ℕ). Err (ColumnNotFound n)) (sym (told _ _ c.in_ok-try_clone-in-None.ensures)))
+    (ap unless_refused (sum_not_found c.args.frame.now c.in-Sum.name c.in-None.ensures.found) ∙ ap (λ (n : List ℕ). Err (ColumnNotFound n)) (sym (told _ _ c.in_ok-try_clone-in-None.ensures)))
 
 pub returns-in-Some : goal.returns-in-Some
 returns-in-Some c =
