@@ -1,3 +1,5 @@
 pub mod Bits
 pub mod Growing
 pub mod Windows
+pub mod Counting
+pub mod NullLaws

@@ -1,5 +1,5 @@
 -- What values of one type stand for, place by place.
-use Rattle.std.specs.Prelude.{◌≡◌, ℕ, ◌*◌, ◌≤◌, ℤ, pos, false, if◌then◌else◌, List, Some, None, length, slice_get, slice_index, slice_index_or}
+use Rattle.std.specs.Prelude.{◌≡◌, ℕ, ◌*◌, ◌≤◌, ℤ, pos, Bool, true, false, if◌then◌else◌, List, Some, None, length, slice_get, slice_index, slice_index_or}
 use Rattle.std.specs.Option.{option_map}
 use Rattle.px_value.specs.Datum.{Datum, Slot, boolean, integer, text, bytes, list, slots}
 use Rattle.px_value.specs.Kind.{Kind, booleans, int8s, int16s, int32s, int64s, uint8s, uint16s, uint32s, uint64s, strings, binaries, nulls, lists}
@@ -97,3 +97,8 @@ IsFor _ _ = ⊥
 abbrev pub IsNullOr : Slot → Datum → Type 0
 IsNullOr None d = Unit {0}
 IsNullOr (Some e) d = e ≡ d
+
+-- the values are not nulls alone
+abbrev pub has_values : Lanes → Bool
+has_values Nulls = false
+has_values _ = true

@@ -26,7 +26,7 @@ pub(crate) enum Inner {
 
 /// What stands at a place.
 #[inline(always)]
-pub(crate) fn lent(inner: &Inner, i: usize) -> Option<ValueRef<'_>>
+pub(crate) fn place_at(inner: &Inner, i: usize) -> Option<ValueRef<'_>>
     requires { Covers inner.now (i + 1) }
     ensures { slot_of_ref result ≡ inner_slot inner.now i }
 {
@@ -146,7 +146,7 @@ impl Array {
         ensures value { slot_of_ref result ≡ slot_at self.now.slots index }
         ensures fits { slot_fits self.now.kind (slot_of_ref result) ≡ true }
     {
-        lent(&self.inner, self.first as usize + index as usize)
+        place_at(&self.inner, self.first as usize + index as usize)
     }
 
     /// The places in order, lent.

@@ -6,6 +6,7 @@ mod builder;
 mod filling;
 mod integers;
 mod lanes;
+mod nulls;
 mod rows;
 mod words;
 

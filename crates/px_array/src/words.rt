@@ -1,7 +1,7 @@
 //! Truths packed in words: bit i of word j belongs to place 64 j + i.
-ghost use Rattle.std.specs.Prelude.{◌≡◌, ◌≢◌, ◌*◌, ◌<◌, ◌≤◌, ℕ, Ok, OnOk, length, true, false};
+ghost use Rattle.std.specs.Prelude.{◌≡◌, ◌≢◌, ◌-◌, ◌*◌, ◌^◌, ◌<◌, ◌≤◌, ℕ, Ok, OnOk, length, true, false};
 ghost use Rattle.smallvec.specs.SmallVec.{small_vec_len};
-ghost use Rattle.px_array.specs.Words.{word_bit};
+ghost use Rattle.px_array.specs.Words.{set_bits, word_bit};
 ghost use Rattle.px_value.specs.Answer.{Answers};
 
 use px_value::Px;
@@ -52,5 +52,55 @@ pub(crate) fn put_bit(words: &mut SmallVec<u64, 1>, i: usize, set: bool)
 {
     if set {
         set_bit(words, i);
+    }
+}
+
+/// How many bits are set from one place up to another, place by place.
+#[tactic(auto, using(crate::proofs::Counting::places_next))]
+fn count_places(words: &[u64], from: usize, to: usize) -> u32
+    requires order { from ≤ to }
+    requires within { to ≤ 64 * length words.now }
+    requires few { to < 2 ^ 32 }
+    ensures { result ≡ set_bits words.now from (to - from) }
+{
+    let mut count = 0;
+    for place in from..to {
+        if bit(words, place) {
+            count += 1;
+        }
+    }
+    count
+}
+
+/// How many bits are set in the words from one up to another.
+#[tactic(auto, using(crate::proofs::Counting::words_next))]
+fn count_words(words: &[u64], from: usize, to: usize) -> u32
+    requires order { from ≤ to }
+    requires within { to ≤ length words.now }
+    requires few { 64 * to < 2 ^ 32 }
+    ensures { result ≡ set_bits words.now (64 * from) (64 * (to - from)) }
+{
+    let mut count = 0;
+    for place in from..to {
+        count += words[place].count_ones();
+    }
+    count
+}
+
+/// How many bits are set from one place up to another: whole words at once.
+#[tactic(auto, using(crate::proofs::Counting::three_parts))]
+pub(crate) fn count_set(words: &[u64], from: usize, to: usize) -> u32
+    requires order { from ≤ to }
+    requires within { to ≤ 64 * length words.now }
+    requires few { to < 2 ^ 32 }
+    ensures { result ≡ set_bits words.now from (to - from) }
+{
+    let (first, last) = (from.div_ceil(64), to / 64);
+    if first < last {
+        count_places(words, from, 64 * first)
+            + count_words(words, first, last)
+            + count_places(words, 64 * last, to)
+    } else {
+        count_places(words, from, to)
     }
 }

@@ -1,5 +1,5 @@
 -- An integer that may be missing, as the row of one column that holds it.
-use Rattle.std.specs.Prelude.{ℤ, pos, List, [], ◌∷◌, Some, None}
+use Rattle.std.specs.Prelude.{pos, List, [], ◌∷◌, Some, None}
 use Rattle.std.specs.Hash as fed
 use Rattle.std.specs.Hash.{HashWrites}
 use Rattle.px_value.specs.Datum.{Slot, integer}

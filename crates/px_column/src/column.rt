@@ -1,5 +1,5 @@
 //! A column: a name and a typed array of optional values.
-ghost use Rattle.std.specs.Prelude.{◌≡◌, ◌+◌, ◌<◌, ◌≤◌, ◌==◌, ◌^◌, IfSome, Ok, length, drop, take, vec_len, true};
+ghost use Rattle.std.specs.Prelude.{◌≡◌, ◌+◌, ◌<◌, ◌≤◌, ◌==◌, ◌^◌, [], IfSome, Ok, length, drop, take, vec_len, true};
 ghost use Rattle.px_value.specs.Answer.{Answers};
 ghost use Rattle.px_column.specs.Column.{made};
 ghost use Rattle.px_value.specs.Kind.{slots_fit, slot_fits};
@@ -60,7 +60,17 @@ impl Column {
         if !all_fit(&dtype, &rows) {
             return Err(PxError::InvalidOperation(InvalidWhy::Types));
         }
-        let mut built = ColumnBuilder::new(alloc, name, dtype, rows.len() as u32)?;
+        let built = ColumnBuilder::new(alloc, name, dtype, rows.len() as u32)?;
+        Column::from_builder(built, rows)
+    }
+
+    /// The column of these values, which fit the type, under the name of a builder that has no row yet.
+    fn from_builder(mut built: ColumnBuilder, rows: Vec<Option<Value>>) -> Px<Column>
+        requires len { vec_len rows < 2 ^ 32 }
+        requires empty { built.slots ≡ [] }
+        requires fit { slots_fit built.kind (slots_of rows.items) ≡ true }
+        ensures { Answers result (Ok (record built { slots = slots_of rows.items })) }
+    {
         for row in rows {
             built.push(row)?;
         }

@@ -9,7 +9,7 @@ mod interval;
 mod keep;
 mod membership;
 mod operate;
-mod ranked;
+mod rank;
 mod reduce;
 mod sort;
 mod sort_key;

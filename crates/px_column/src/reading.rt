@@ -10,17 +10,11 @@ use crate::column::Column;
 use px_value::ValueRef;
 
 impl Column {
-    /// The number of nulls (polars `null_count`).
+    /// The number of nulls (polars `null_count`), by whole words of validity.
     pub fn null_count(&self) -> u32
         ensures { result ≡ null_count self.now.slots }
     {
-        let mut count = 0;
-        for row in self.rows() {
-            if row.is_none() {
-                count += 1;
-            }
-        }
-        count
+        self.array.null_count()
     }
 
     /// What stands at a row, with nothing after the last.

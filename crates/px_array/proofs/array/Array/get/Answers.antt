@@ -8,8 +8,8 @@ use Rattle.px_array.specs.Places.{Places}
 use Rattle.px_array.proofs.Windows.{window_row, covers_less}
 use Rattle.px_array.proofs.array.Array.get.Goals as goal
 
-pub lent-requires : goal.lent-requires
-lent-requires c =
+pub place_at-requires : goal.place_at-requires
+place_at-requires c =
     let x = c.self.inside in
     let count : length (window x.inner x.first x.len) ≡ length c.args.self.now.slots = ap (λ (s : Places). length s.slots) c.self.view_is in
     covers_less x.inner (x.first + c.args.index + 1) (x.first + x.len)
@@ -20,7 +20,7 @@ returns-clause-value c =
     let x = c.self.inside in
     let count : length (window x.inner x.first x.len) ≡ length c.args.self.now.slots = ap (λ (s : Places). length s.slots) c.self.view_is in
     let lt : c.args.index < x.len = omega (arith, count, length-map-range_with_len (inner_slot x.inner) x.first x.len, c.requires) in
-    c.lent.ensures ∙ sym (window_row (inner_slot x.inner) x.first x.len c.args.index lt)
+    c.place_at.ensures ∙ sym (window_row (inner_slot x.inner) x.first x.len c.args.index lt)
     ∙ ap (λ (s : Places). slot_at s.slots c.args.index) c.self.view_is
 
 pub returns-clause-fits : goal.returns-clause-fits
