@@ -3,29 +3,20 @@ ghost use Rattle.std.specs.Prelude.{◌≡◌, ◌<◌, ◌^◌, true};
 ghost use Rattle.px_frame.specs.Groups.{is_group};
 ghost use Rattle.px_frame.specs.GroupsView.{lent_group};
 
-use crate::told::{flat, slices};
+use crate::contexts::{flat, slices};
 use px_column::{Column, DataType, Name, Px, PxError, Value, ValueRef};
 use px_context::{AggregationContext, GroupPiece};
 use px_frame::{GroupPositions, GroupsIndicator};
+use rand_core::Rng;
+use rand_pcg::Pcg32;
 use std::alloc::Global;
 use std::test::Fail;
 
-/// The next number of a linear congruential generator, below the bound.
-fn next(state: &mut u64, bound: u32) -> u32
-    requires { 0 < bound }
-    ensures { result < bound }
-{
-    *state = state
-        .wrapping_mul(6364136223846793005)
-        .wrapping_add(1442695040888963407);
-    ((*state >> 33) % bound as u64) as u32
-}
-
 /// Small numbers and nulls.
-fn small_rows(alloc: Global, state: &mut u64, height: u32) -> Px<Vec<Option<i128>>> {
+fn small_rows(alloc: Global, rng: &mut Pcg32, height: u32) -> Px<Vec<Option<i128>>> {
     let mut rows = Vec::new(alloc);
     for _ in 0..height {
-        let value = next(state, 5);
+        let value = rng.next_u32() % 5;
         rows.push(if value == 4 {
             None
         } else {
@@ -36,13 +27,13 @@ fn small_rows(alloc: Global, state: &mut u64, height: u32) -> Px<Vec<Option<i128
 }
 
 /// Five slices of rows, which overlap, stand in any order, and may be empty.
-fn small_slices(alloc: Global, state: &mut u64, height: u32) -> Px<Vec<[u32; 2]>>
+fn small_slices(alloc: Global, rng: &mut Pcg32, height: u32) -> Px<Vec<[u32; 2]>>
     requires { height < 100 }
 {
     let mut groups = Vec::new(alloc);
     for _ in 0..5u32 {
-        let start = next(state, height + 1);
-        let len = next(state, height - start + 1);
+        let start = rng.next_u32() % (height + 1);
+        let len = rng.next_u32() % (height - start + 1);
         groups.push([start, len])?;
     }
     Ok(groups)
@@ -156,11 +147,11 @@ fn leaves_cells(
 }
 
 /// Whether a generated context has the same cells throughout.
-fn same_throughout(alloc: Global, state: &mut u64) -> Px<bool> {
-    let height = next(state, 9);
-    let rows = small_rows(alloc, state, height)?;
+fn same_throughout(alloc: Global, rng: &mut Pcg32) -> Px<bool> {
+    let height = rng.next_u32() % 9;
+    let rows = small_rows(alloc, rng, height)?;
     let column = column_of(alloc, &rows)?;
-    let groups = slices(small_slices(alloc, state, height)?, column.len())?;
+    let groups = slices(small_slices(alloc, rng, height)?, column.len())?;
     let mut context = flat(&column, &groups)?;
     let kept = keeps_cells(alloc, &mut context, &rows, &groups)?;
     Ok(kept && leaves_cells(alloc, context, &rows, &groups)?)
@@ -169,9 +160,9 @@ fn same_throughout(alloc: Global, state: &mut u64) -> Px<bool> {
 #[test]
 fn contexts_keep_the_cells_that_rows_one_by_one_give(rt: HostRuntime) -> Result<(), Fail> {
     let alloc = rt.alloc();
-    let mut state = 7;
+    let mut rng = Pcg32::new(7, 54);
     for _ in 0..40u32 {
-        assert!(rt; same_throughout(alloc, &mut state)?);
+        assert!(rt; same_throughout(alloc, &mut rng)?);
     }
     Ok(())
 }

@@ -2,11 +2,11 @@
 #![tactic(auto)]
 
 #[cfg(test)]
+mod contexts;
+#[cfg(test)]
 mod generated;
 #[cfg(test)]
 mod states;
-#[cfg(test)]
-mod told;
 #[cfg(test)]
 mod windows;
 #[cfg(test)]

@@ -20,7 +20,7 @@ fn one_row(alloc: Global) -> Px<DataFrame> {
 }
 
 // A state that has a schema, a frame from outside, and a frame under the key 4.
-fn filled(alloc: Global) -> Px<ExecutionState> {
+fn full_state(alloc: Global) -> Px<ExecutionState> {
     let mut state = ExecutionState::new(alloc, false)?;
     state.branch_idx = 3;
     state.set_schema(Rc::new(alloc, Schema::new(alloc)?)?);
@@ -31,8 +31,8 @@ fn filled(alloc: Global) -> Px<ExecutionState> {
     Ok(state)
 }
 
-// Whether a state has what `filled` put in.
-fn is_filled(state: &mut ExecutionState) -> Px<bool> {
+// Whether a state has what `full_state` put in.
+fn is_full(state: &mut ExecutionState) -> Px<bool> {
     let outside = match state.ext_contexts.as_slice() {
         [frame] => frame.height() == 1,
         _ => false,
@@ -57,16 +57,31 @@ fn a_new_state_has_nothing_cached(rt: HostRuntime) -> Result<(), Fail> {
     Ok(())
 }
 
+// Changes the hits under the key 4, after which the state is not as `full_state` made it.
+fn change_hits(state: &mut ExecutionState) -> Px<bool> {
+    state.get_df_cache(4, 9)?.hits = 8;
+    Ok(!is_full(state)?)
+}
+
+// Whether a state for a branch has what it was made of, without the schema, once that has changed.
+fn is_split_its_own(alloc: Global) -> Px<bool> {
+    let mut state = full_state(alloc)?;
+    let mut split = state.split(alloc)?;
+    Ok(change_hits(&mut state)? && is_full(&mut split)? && split.get_schema().is_none())
+}
+
+// Whether a copy has what it was made of, with the schema, once that has changed.
+fn is_copy_its_own(alloc: Global) -> Px<bool> {
+    let mut state = full_state(alloc)?;
+    let mut copy = state.clone(alloc)?;
+    Ok(change_hits(&mut state)? && is_full(&mut copy)? && copy.get_schema().is_some())
+}
+
 #[test]
 fn copies_own_what_a_state_has(rt: HostRuntime) -> Result<(), Fail> {
     let alloc = rt.alloc();
-    let mut state = filled(alloc)?;
-    let mut split = state.split(alloc)?;
-    let mut copy = state.clone(alloc)?;
-    assert!(rt; split.get_schema().is_none() && copy.get_schema().is_some());
-    state.get_df_cache(4, 9)?.hits = 8;
-    assert!(rt; is_filled(&mut split)? && is_filled(&mut copy)?);
-    assert!(rt; !is_filled(&mut state)?);
+    assert!(rt; is_split_its_own(alloc)?);
+    assert!(rt; is_copy_its_own(alloc)?);
     Ok(())
 }
 

@@ -2,17 +2,17 @@
 ghost use Rattle.std.specs.Prelude.{◌≡◌, ◌<◌, IfOk};
 ghost use Rattle.px_window.specs.Places.{HoldsEachRowOnce};
 
-use crate::told::{column, told};
 use px_column::{Column, Name, Px, PxError, SortOptions, Steps};
 use px_context::{AggregationContext, ColRef, GroupsRef};
 use px_frame::{GroupPositions, GroupsIndicator};
+use px_trial_texts::{column, is_text, text_of_column};
 use px_window::{CacheKey, inverse_map, ordered_groups, place_explode, place_join, place_rows};
 use std::alloc::Global;
 use std::marker::Brand;
 use std::sync::ledger::{Blank, Ledger};
 use std::test::Fail;
 
-fn counted_groups<L: Ledger, M: Ledger>(
+fn groups_with_counters<L: Ledger, M: Ledger>(
     alloc: Global,
     key: &CacheKey,
     kernels: Blank,
@@ -32,12 +32,12 @@ fn counted_groups<L: Ledger, M: Ledger>(
 }
 
 // The groups of four rows, two keys by a column, in an order or none.
-fn grouped(alloc: Global, order: Option<(Column, SortOptions)>) -> Px<GroupPositions>
+fn groups_in_order(alloc: Global, order: Option<(Column, SortOptions)>) -> Px<GroupPositions>
     ensures { IfOk result HoldsEachRowOnce }
 {
     let keys = column(alloc, "Int64", "[7,9,7,7]")?;
     let key = CacheKey::new(0, vec![in alloc; keys]?, order);
-    counted_groups::<Brand, Brand>(alloc, &key, Blank::new(1), Blank::new(1))
+    groups_with_counters::<Brand, Brand>(alloc, &key, Blank::new(1), Blank::new(1))
 }
 
 fn in_falling_order(alloc: Global) -> Px<GroupPositions>
@@ -48,7 +48,7 @@ fn in_falling_order(alloc: Global) -> Px<GroupPositions>
         nulls_last: false,
     };
     let order = column(alloc, "Int64", "[0,1,2,3]")?;
-    grouped(alloc, Some((order, options)))
+    groups_in_order(alloc, Some((order, options)))
 }
 
 // Whether a group has this number `first` and these rows.
@@ -85,42 +85,48 @@ fn values_at<'a>(values: &'a Column, groups: &'a GroupPositions) -> Px<Aggregati
     Ok(AggregationContext::new(values, groups, false))
 }
 
-fn placed(alloc: Global, values: &Column, groups: &GroupPositions) -> Px<Name>
+fn text_of_rows(alloc: Global, values: &Column, groups: &GroupPositions) -> Px<Name>
     requires { HoldsEachRowOnce groups.now }
 {
     let map = inverse_map(alloc, groups)?;
     let mut cells = values_at(values, groups)?;
-    told(alloc, place_rows(alloc, &mut cells, groups, &map)?)
+    text_of_column(alloc, place_rows(alloc, &mut cells, groups, &map))
 }
 
-fn joined(alloc: Global, values: &Column, groups: &GroupPositions) -> Px<Name>
+fn text_of_join(alloc: Global, values: &Column, groups: &GroupPositions) -> Px<Name>
     requires { HoldsEachRowOnce groups.now }
 {
     let mut cells = values_at(values, groups)?;
-    told(alloc, place_join(alloc, &mut cells, groups)?)
+    text_of_column(alloc, place_join(alloc, &mut cells, groups))
 }
 
-fn exploded(alloc: Global, values: &Column, groups: &GroupPositions) -> Px<Name> {
+fn text_of_explode(alloc: Global, values: &Column, groups: &GroupPositions) -> Px<Name> {
     let mut cells = values_at(values, groups)?;
-    told(alloc, place_explode(alloc, &mut cells)?)
+    text_of_column(alloc, place_explode(alloc, &mut cells))
 }
 
 #[test]
 fn cells_stand_at_rows_and_whole_and_one_after_another(rt: HostRuntime) -> Result<(), Fail> {
     let alloc = rt.alloc();
     let values = column(alloc, "Int64", "[0,1,2,3]")?;
-    let groups = grouped(alloc, None)?;
-    assert_eq!(rt;
-        placed(alloc, &values, &groups)?.as_str(),
-        "[\"x\"]\n[\"Int64\"]\n[0]\n[1]\n[2]\n[3]\n"
+    let groups = groups_in_order(alloc, None)?;
+    assert!(rt;
+        is_text(
+            text_of_rows(alloc, &values, &groups),
+            "[\"x\"]\n[\"Int64\"]\n[0]\n[1]\n[2]\n[3]\n"
+        )?
     );
-    assert_eq!(rt;
-        joined(alloc, &values, &groups)?.as_str(),
-        "[\"x\"]\n[\"List(Int64)\"]\n[[0,2,3]]\n[[1]]\n[[0,2,3]]\n[[0,2,3]]\n"
+    assert!(rt;
+        is_text(
+            text_of_join(alloc, &values, &groups),
+            "[\"x\"]\n[\"List(Int64)\"]\n[[0,2,3]]\n[[1]]\n[[0,2,3]]\n[[0,2,3]]\n"
+        )?
     );
-    assert_eq!(rt;
-        exploded(alloc, &values, &groups)?.as_str(),
-        "[\"x\"]\n[\"Int64\"]\n[0]\n[2]\n[3]\n[1]\n"
+    assert!(rt;
+        is_text(
+            text_of_explode(alloc, &values, &groups),
+            "[\"x\"]\n[\"Int64\"]\n[0]\n[2]\n[3]\n[1]\n"
+        )?
     );
     Ok(())
 }

@@ -1,10 +1,11 @@
 //! Worked examples of contexts.
 ghost use Rattle.std.specs.Prelude.{◌≡◌, length};
 
-use crate::told::{column, flat, slices, told};
+use crate::contexts::{flat, slices};
 use px_column::{Column, Name, Px, PxError};
 use px_context::{AggState, AggregationContext, ColRef, GroupsRef, UpdateGroups};
 use px_frame::{GroupPositions, GroupsIndicator, GroupsType, IdxVec, list_groups};
+use px_trial_texts::{column, is_text, text_of_column};
 use std::alloc::Global;
 use std::test::Fail;
 
@@ -26,20 +27,20 @@ fn are_slices(groups: &GroupPositions, slices: &[[u32; 2]]) -> bool {
 }
 
 // What a call lends of a context with a list or a value for each group.
-fn aggregated(alloc: Global, context: &mut AggregationContext<'_>) -> Px<Name> {
+fn text_of_aggregated(alloc: Global, context: &mut AggregationContext<'_>) -> Px<Name> {
     let column = context.aggregated(alloc)?;
-    told(alloc, column.try_clone(alloc)?)
+    text_of_column(alloc, column.try_clone(alloc))
 }
 
-fn finalized(alloc: Global, context: &mut AggregationContext<'_>) -> Px<Name> {
-    told(alloc, context.finalize(alloc)?)
+fn text_of_finalize(alloc: Global, context: &mut AggregationContext<'_>) -> Px<Name> {
+    text_of_column(alloc, context.finalize(alloc))
 }
 
 // The cell of a group, as a column.
 fn cell(alloc: Global, context: &mut AggregationContext<'_>, index: usize) -> Px<Name> {
     let mut cells = context.iter_groups(alloc)?;
     match cells.nth(index) {
-        Some(piece) => told(alloc, piece.to_column(alloc, Name::new(alloc, "y")?)?),
+        Some(piece) => text_of_column(alloc, piece.to_column(alloc, Name::new(alloc, "y")?)),
         None => Err(PxError::OutOfBounds),
     }
 }
@@ -50,7 +51,7 @@ fn apart(alloc: Global, context: AggregationContext<'_>, slices: &[[u32; 2]]) ->
     if !are_slices(groups.get(), slices) {
         return Err(PxError::OutOfBounds);
     }
-    told(alloc, column.into_owned(alloc)?)
+    text_of_column(alloc, column.into_owned(alloc))
 }
 
 fn four(alloc: Global) -> Px<Column> {
@@ -64,7 +65,7 @@ fn overlapping(alloc: Global) -> Px<GroupPositions> {
 
 fn aggregated_over(alloc: Global, values: &Column, groups: &GroupPositions) -> Px<Name> {
     let mut context = flat(values, groups)?;
-    aggregated(alloc, &mut context)
+    text_of_aggregated(alloc, &mut context)
 }
 
 fn overlapping_lists(alloc: Global) -> Px<Name> {
@@ -91,13 +92,17 @@ fn slices_that_overlap_become_lists_and_slices_one_after_another(
     rt: HostRuntime,
 ) -> Result<(), Fail> {
     let alloc = rt.alloc();
-    assert_eq!(rt;
-        overlapping_lists(alloc)?.as_str(),
-        "[\"x\"]\n[\"List(Int64)\"]\n[[0]]\n[[0,1]]\n[[0,1,2,3]]\n"
+    assert!(rt;
+        is_text(
+            overlapping_lists(alloc),
+            "[\"x\"]\n[\"List(Int64)\"]\n[[0]]\n[[0,1]]\n[[0,1,2,3]]\n"
+        )?
     );
-    assert_eq!(rt;
-        overlapping_apart(alloc)?.as_str(),
-        "[\"x\"]\n[\"Int64\"]\n[0]\n[0]\n[1]\n[0]\n[1]\n[2]\n[3]\n"
+    assert!(rt;
+        is_text(
+            overlapping_apart(alloc),
+            "[\"x\"]\n[\"Int64\"]\n[0]\n[0]\n[1]\n[0]\n[1]\n[2]\n[3]\n"
+        )?
     );
     Ok(())
 }
@@ -115,7 +120,7 @@ fn two_groups(alloc: Global) -> Px<GroupPositions> {
 
 fn finalized_over(alloc: Global, values: &Column, groups: &GroupPositions) -> Px<Name> {
     let mut context = flat(values, groups)?;
-    finalized(alloc, &mut context)
+    text_of_finalize(alloc, &mut context)
 }
 
 fn lists_of_two(alloc: Global) -> Px<Name> {
@@ -138,18 +143,19 @@ fn cell_of_two(alloc: Global, index: usize) -> Px<Name> {
 #[test]
 fn each_group_has_its_list(rt: HostRuntime) -> Result<(), Fail> {
     let alloc = rt.alloc();
-    assert_eq!(rt;
-        lists_of_two(alloc)?.as_str(),
-        "[\"x\"]\n[\"List(Int64)\"]\n[[0,2,3]]\n[[1]]\n"
+    assert!(rt;
+        is_text(
+            lists_of_two(alloc),
+            "[\"x\"]\n[\"List(Int64)\"]\n[[0,2,3]]\n[[1]]\n"
+        )?
     );
-    assert_eq!(rt;
-        cell_of_two(alloc, 0)?.as_str(),
-        "[\"y\"]\n[\"Int64\"]\n[0]\n[2]\n[3]\n"
+    assert!(rt;
+        is_text(
+            cell_of_two(alloc, 0),
+            "[\"y\"]\n[\"Int64\"]\n[0]\n[2]\n[3]\n"
+        )?
     );
-    assert_eq!(rt;
-        cell_of_two(alloc, 1)?.as_str(),
-        "[\"y\"]\n[\"Int64\"]\n[1]\n"
-    );
+    assert!(rt; is_text(cell_of_two(alloc, 1), "[\"y\"]\n[\"Int64\"]\n[1]\n")?);
     Ok(())
 }
 
@@ -176,7 +182,7 @@ fn apart_over(alloc: Global, values: &Column, groups: &GroupPositions) -> Px<Nam
 
 fn joined_over(alloc: Global, values: &Column, groups: &GroupPositions) -> Px<Name> {
     let context = lists(alloc, values, groups)?;
-    told(alloc, context.flat_naive(alloc)?.into_owned(alloc)?)
+    text_of_column(alloc, context.flat_naive(alloc)?.into_owned(alloc))
 }
 
 fn regrouped_over(alloc: Global, values: &Column, groups: &GroupPositions) -> Px<bool> {
@@ -216,8 +222,8 @@ fn an_empty_list_takes_no_place(rt: HostRuntime) -> Result<(), Fail> {
     let alloc = rt.alloc();
     let text = "[\"x\"]\n[\"Int64\"]\n[0]\n[2]\n[3]\n";
     assert!(rt; lists_regrouped(alloc)?);
-    assert_eq!(rt; lists_joined(alloc)?.as_str(), text);
-    assert_eq!(rt; lists_apart(alloc)?.as_str(), text);
+    assert!(rt; is_text(lists_joined(alloc), text)?);
+    assert!(rt; is_text(lists_apart(alloc), text)?);
     Ok(())
 }
 
@@ -232,33 +238,47 @@ fn literal(alloc: Global, values: &str, unit: bool) -> Px<Name> {
         GroupsRef::Owned(groups),
         unit,
     );
-    finalized(alloc, &mut context)
+    text_of_finalize(alloc, &mut context)
 }
 
 #[test]
 fn a_literal_is_the_same_for_each_group(rt: HostRuntime) -> Result<(), Fail> {
     let alloc = rt.alloc();
-    assert_eq!(rt;
-        literal(alloc, "[5]", true)?.as_str(),
-        "[\"x\"]\n[\"Int64\"]\n[5]\n[5]\n"
+    assert!(rt;
+        is_text(
+            literal(alloc, "[5]", true),
+            "[\"x\"]\n[\"Int64\"]\n[5]\n[5]\n"
+        )?
     );
-    assert_eq!(rt;
-        literal(alloc, "[1,2]", false)?.as_str(),
-        "[\"x\"]\n[\"List(Int64)\"]\n[[1,2]]\n[[1,2]]\n"
+    assert!(rt;
+        is_text(
+            literal(alloc, "[1,2]", false),
+            "[\"x\"]\n[\"List(Int64)\"]\n[[1,2]]\n[[1,2]]\n"
+        )?
     );
-    assert_eq!(rt;
-        literal(alloc, "[5]", false)?.as_str(),
-        "[\"x\"]\n[\"List(Int64)\"]\n[[5]]\n[[5]]\n"
+    assert!(rt;
+        is_text(
+            literal(alloc, "[5]", false),
+            "[\"x\"]\n[\"List(Int64)\"]\n[[5]]\n[[5]]\n"
+        )?
     );
     Ok(())
+}
+
+fn text_of_owned(alloc: Global) -> Px<Name> {
+    let values = column(alloc, "String", "[\"a\",null]")?;
+    text_of_column(alloc, ColRef::Borrowed(&values).into_owned(alloc))
 }
 
 #[test]
 fn a_borrowed_column_becomes_an_equal_one(rt: HostRuntime) -> Result<(), Fail> {
     let alloc = rt.alloc();
-    let values = column(alloc, "String", "[\"a\",null]")?;
-    let owned = ColRef::Borrowed(&values).into_owned(alloc)?;
-    assert_eq!(rt; told(alloc, owned)?.as_str(), told(alloc, values)?.as_str());
+    assert!(rt;
+        is_text(
+            text_of_owned(alloc),
+            "[\"x\"]\n[\"String\"]\n[\"a\"]\n[null]\n"
+        )?
+    );
     Ok(())
 }
 

@@ -1,5 +1,4 @@
 pub mod Views
-pub mod Separated
 pub mod Forms
 pub mod StepForms
 pub mod Readings

@@ -1,5 +1,3 @@
-pub mod Text
-pub mod Label
 pub mod Form
 pub mod Document
 pub mod ExprForm

@@ -1,10 +1,6 @@
-//! Documents of a frame and steps, and the texts of frames and faults.
+//! Documents of a frame and steps, and their reader.
 #![tactic(auto)]
 
 mod document;
-mod label;
-mod text;
 
 pub use document::{Document, DocumentFault, read_document};
-pub use label::error_line;
-pub use text::frame_text;

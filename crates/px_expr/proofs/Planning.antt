@@ -1,7 +1,5 @@
 -- Expressions that are planned one after another.
 use Rattle.std.proofs.Common.{◌≡◌, ℕ, ◌+◌, ◌<◌, List, ◌∷◌, ◌++◌, [], length, take, Result, Ok, Err, slice_index_or, refl, ◌∙◌, sym, ap, add-one}
-use Rattle.std.specs.Prelude.{IfErr}
-use Rattle.std.specs.Result.{IsErrAnd}
 use Rattle.std.proofs.lemmas.List.Sums.{fold-append}
 use Rattle.std.proofs.Math.Seq.{take-suc}
 use Rattle.px_value.proofs.Refusing.{refuses_too}
@@ -74,8 +72,3 @@ refused_front ts scope place s es i e ps new error h at before noted refused = r
 -- and where memory was wanting
 pub front_in_memory : (ts : List Tree) (scope : Scope) (place : Context) (s : ExpressionConversionState) (es : List NamedNode) (i : ℕ) (ps : List Planned) (new : ExpressionConversionState) → plans_in (take i es) ts scope place ≡ Ok ps → new ≡ all_noted ts s (take i es) → NotesFront OutOfMemory ts scope place s es new
 front_in_memory ts scope place s es i ps new planned noted = record { count = i; plans = ps; planned = planned; refused = tt; noted = noted }
-
--- the error that is told
-pub told_front : {X : Type 0} (r : Result X PxError) (error : PxError) (P : PxError → Type 0) → IsErrAnd r (λ e. e ≡ error) → P error → IfErr r P
-told_front (Ok x) error P h p = tt
-told_front (Err e) error P h p = rw h p

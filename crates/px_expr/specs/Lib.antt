@@ -1,6 +1,3 @@
-pub mod Deep
 pub mod Depth
-pub mod NodeView
-pub mod Ordered
 pub mod Plan
-pub mod Size
+pub use Rattle.px_physical.specs.NodeView

@@ -14,7 +14,7 @@ use Rattle.px_tree.specs.Shape.{has_window}
 use Rattle.px_expr.specs.Depth.{is_too_deep}
 use Rattle.px_answers.specs.Parts.{under}
 use Rattle.px_answers.specs.Planned.{Planned}
-use Rattle.px_expr.specs.NodeView.{plan_of}
+use Rattle.px_physical.specs.NodeView.{plan_of}
 use Rattle.px_expr.specs.declared.planner.nodes.PlannedFunction.{PlannedFunction}
 use Rattle.px_expr.specs.declared.conversion.ExpressionConversionState.{ExpressionConversionState}
 

@@ -1,27 +1,27 @@
 //! From expressions in an arena to nodes.
-ghost use Rattle.std.specs.Prelude.{◌≡◌, ◌<◌, length, map, Ok, IfErr, IfOk, OnOk, OnErr};
+ghost use Rattle.std.specs.Prelude.{◌≡◌, ◌<◌, length, map, Ok, IfErr, IfOk, OnOk, OnErr, option_map};
 ghost use Rattle.std.specs.List.{All};
 ghost use Rattle.px_column.specs.Prelude.{AnswersBy, kind_of};
 ghost use Rattle.px_arena.specs.Arena.{tree_at};
 ghost use Rattle.px_tree.specs.Typing.{type_of};
 ghost use Rattle.px_tree.specs.View.{tree, trees, agg_tree, mapping_of, order_tree};
-ghost use Rattle.px_expr.specs.NodeView.{order_of, plan_of};
+ghost use Rattle.px_answers.specs.Parts.{under};
+ghost use Rattle.px_physical.specs.NodeView.{order_of, plan_of};
 ghost use Rattle.px_expr.specs.Plan.{function_of, plan_in, plans_in, planned_over, all_planned_over, order_planned_over, noted, all_noted, IsPlannable, NotesFront};
 
 mod apply;
 mod nodes;
 
 use crate::conversion::ExpressionConversionState;
-use crate::count::CountExpr;
-use crate::phys_expr::PhysExpr;
 use apply::plan_apply;
 use nodes::{
     PlannedFunction, plan_aggregation, plan_alias, plan_binary, plan_cast, plan_column,
     plan_filter, plan_gather, plan_literal, plan_slice, plan_sort, plan_sort_by, plan_ternary,
     plan_window,
 };
-use px_column::{DataType, GroupByMethod, Px, SortOptions};
+use px_column::{DataType, GroupByMethod, Name, Px, SortOptions};
 use px_frame::SchemaRef;
+use px_physical::{CountExpr, PhysExpr};
 use px_plan::{
     AggExpr, Arena, Context, Expr, ExprIR, Exprs, FunctionExpr, WindowMapping, WindowType,
     node_to_expr, type_of,
@@ -91,13 +91,20 @@ pub fn create_typed_expr(
     let expr = node_to_expr(alloc, expr_ir.node(), expr_arena)?;
     let dtype = type_of(alloc, &expr, schema, ctxt)?;
     let noted = state.noting(&expr);
-    let input = plan_expr(alloc, &expr, schema)?;
-    let plan = match expr_ir.get_alias() {
-        None => input,
-        Some(name) => plan_alias(alloc, input, name, expr)?,
-    };
+    let plan = plan_named(alloc, expr, expr_ir.get_alias(), schema)?;
     *state = noted;
     Ok((plan, dtype))
+}
+
+// The node of an expression that has no refusal over the schema, under a name where one is given.
+fn plan_named(alloc: Global, expr: Expr, name: Option<&Name>, schema: &SchemaRef) -> Px<PhysExpr>
+    ensures { AnswersBy plan_of result (Ok (planned_over schema.now.value (under (option_map (λ n. n.now) name.entry) (tree expr)))) }
+{
+    let input = plan_expr(alloc, &expr, schema)?;
+    match name {
+        None => Ok(input),
+        Some(name) => plan_alias(alloc, input, name, expr),
+    }
 }
 
 // The node of an expression that has no refusal over the schema; the nodes share its parts.

@@ -1,18 +1,14 @@
 //! Runs whose words are others, whose reads and writes are short or fail, and what a run is made of.
-ghost use Rattle.std.specs.Prelude.{◌≡◌, ◌<◌, map, true};
-ghost use Rattle.std.specs.List.{list_all};
-ghost use Rattle.px_tree.specs.Chunks.{is_unchunked};
-ghost use Rattle.px_tree.specs.Step.{step_view};
+ghost use Rattle.std.specs.Prelude.{◌≡◌, ◌<◌};
 
-use px_column::{Name, Px, PxError, Steps};
+use px_column::{Px, PxError, Steps};
 use px_ends::{LIMIT, read_all, write_all};
 use px_frame::DataFrame;
 use px_steps::run::run;
 use px_steps::{
-    Document, MemorySink, MemorySource, Status, StdinSource, StdoutSink, Step, are_unchunked,
-    error_line, frame_text, read_document, run_steps,
+    Document, MemorySink, MemorySource, Status, StdinSource, StdoutSink, are_unchunked, frame_text,
+    read_document, run_steps,
 };
-use px_vectors::totals;
 use px_window::ExecutionState;
 use std::alloc::Global;
 use std::marker::Brand;
@@ -35,7 +31,7 @@ const SUM_WITH_OUTSIDE: &str =
 const FILTER_BEFORE_OUTSIDE: &str =
     r#"{"columns":[{"name":"k","type":"Int64","values":[7,9,7,7]},{"name":"x","type":"Int64","values":[0,1,2,3]}],"steps":[{"filter":{"bin":["Gt",{"col":"x"},{"lit":{"type":"Int64","value":0}}]}},{"select":[{"col":"e"}]}]}"#;
 
-fn counted<L: Ledger, M: Ledger>(
+fn run_with_counters<L: Ledger, M: Ledger>(
     alloc: Global,
     words: &[String],
     source: &mut MemorySource,
@@ -56,11 +52,16 @@ fn counted<L: Ledger, M: Ledger>(
 }
 
 /// How a run of one word ends.
-fn ran(alloc: Global, word: &str, source: &mut MemorySource, sink: &mut MemorySink) -> Px<Status> {
+fn run_word(
+    alloc: Global,
+    word: &str,
+    source: &mut MemorySource,
+    sink: &mut MemorySink,
+) -> Px<Status> {
     let words = vec![in alloc; String::from_str(alloc, word)?]?;
     let kernels = Blank::new(1);
     let groupings = Blank::new(1);
-    Ok(counted::<Brand, Brand>(alloc, &words, source, sink, kernels, groupings))
+    Ok(run_with_counters::<Brand, Brand>(alloc, &words, source, sink, kernels, groupings))
 }
 
 /// The document, so many bytes a read.
@@ -76,10 +77,10 @@ fn other_words_touch_nothing(rt: HostRuntime) -> Result<(), Fail> {
     let alloc = rt.alloc();
     let mut source = source(alloc, 16, Vec::new(alloc))?;
     let mut sink = MemorySink::new(alloc, 100, 10, Vec::new(alloc))?;
-    let status = ran(alloc, "runs", &mut source, &mut sink)?;
+    let status = run_word(alloc, "runs", &mut source, &mut sink)?;
     assert_eq!(rt; status, Status::Usage);
     assert!(rt; sink.bytes().is_empty());
-    let status = ran(alloc, "run", &mut source, &mut sink)?;
+    let status = run_word(alloc, "run", &mut source, &mut sink)?;
     assert_eq!(rt; status, Status::Done);
     assert_eq!(rt; sink.bytes(), TEXT.as_bytes());
     Ok(())
@@ -90,7 +91,7 @@ fn pieces_of_one_byte_change_nothing(rt: HostRuntime) -> Result<(), Fail> {
     let alloc = rt.alloc();
     let mut source = source(alloc, 1, Vec::new(alloc))?;
     let mut sink = MemorySink::new(alloc, 100, 1, Vec::new(alloc))?;
-    let status = ran(alloc, "run", &mut source, &mut sink)?;
+    let status = run_word(alloc, "run", &mut source, &mut sink)?;
     assert_eq!(rt; status, Status::Done);
     assert_eq!(rt; sink.bytes(), TEXT.as_bytes());
     Ok(())
@@ -101,7 +102,7 @@ fn after_a_failed_read_nothing_is_written(rt: HostRuntime) -> Result<(), Fail> {
     let alloc = rt.alloc();
     let mut source = source(alloc, 16, vec![in alloc; 2]?)?;
     let mut sink = MemorySink::new(alloc, 100, 10, Vec::new(alloc))?;
-    let status = ran(alloc, "run", &mut source, &mut sink)?;
+    let status = run_word(alloc, "run", &mut source, &mut sink)?;
     assert_eq!(rt; status, Status::ReadFault);
     assert!(rt; sink.bytes().is_empty());
     Ok(())
@@ -112,7 +113,7 @@ fn after_a_failed_write_a_front_is_written(rt: HostRuntime) -> Result<(), Fail> 
     let alloc = rt.alloc();
     let mut source = source(alloc, 16, Vec::new(alloc))?;
     let mut sink = MemorySink::new(alloc, 100, 10, vec![in alloc; 2]?)?;
-    let status = ran(alloc, "run", &mut source, &mut sink)?;
+    let status = run_word(alloc, "run", &mut source, &mut sink)?;
     assert_eq!(rt; status, Status::WriteFault);
     assert_eq!(rt; sink.bytes(), b"[\"k\",\"x\",\"".as_slice());
     Ok(())
@@ -123,7 +124,7 @@ fn a_full_sink_holds_a_front(rt: HostRuntime) -> Result<(), Fail> {
     let alloc = rt.alloc();
     let mut source = source(alloc, 16, Vec::new(alloc))?;
     let mut sink = MemorySink::new(alloc, 12, 100, Vec::new(alloc))?;
-    let status = ran(alloc, "run", &mut source, &mut sink)?;
+    let status = run_word(alloc, "run", &mut source, &mut sink)?;
     assert_eq!(rt; status, Status::WriteFault);
     assert_eq!(rt; sink.bytes(), b"[\"k\",\"x\",\"le".as_slice());
     Ok(())
@@ -135,55 +136,9 @@ fn a_text_too_long_is_no_document(rt: HostRuntime) -> Result<(), Fail> {
     let bytes = vec![in alloc; b' '; LIMIT]?;
     let mut source = MemorySource::new(bytes, u32::MAX, Vec::new(alloc));
     let mut sink = MemorySink::new(alloc, 100, 10, Vec::new(alloc))?;
-    let status = ran(alloc, "run", &mut source, &mut sink)?;
+    let status = run_word(alloc, "run", &mut source, &mut sink)?;
     assert_eq!(rt; status, Status::BadDocument);
     assert_eq!(rt; sink.bytes(), b"error: BadDocument\n".as_slice());
-    Ok(())
-}
-
-fn counted_steps<L: Ledger, M: Ledger>(
-    alloc: Global,
-    frame: &DataFrame,
-    steps: &[Step],
-    kernels: Blank,
-    groupings: Blank,
-) -> Px<DataFrame>
-    requires unchunked { list_all is_unchunked (map step_view steps.now) ≡ true }
-    requires kernels_name { kernels.name ≡ L.name }
-    requires kernels_parts { kernels.parts ≡ L.parts }
-    requires kernels_some { 0 < kernels.parts }
-    requires groupings_name { groupings.name ≡ M.name }
-    requires groupings_parts { groupings.parts ≡ M.parts }
-    requires groupings_some { 0 < groupings.parts }
-{
-    let mut state = ExecutionState::new(alloc, false)?;
-    let mut kernels = Steps::<L>::new(kernels);
-    let mut groupings = Steps::<M>::new(groupings);
-    run_steps(
-        alloc,
-        frame,
-        steps,
-        &mut state,
-        &mut kernels,
-        &mut groupings,
-    )
-}
-
-fn without_steps(alloc: Global, frame: &DataFrame) -> Px<DataFrame> {
-    counted_steps::<Brand, Brand>(alloc, frame, &[], Blank::new(1), Blank::new(1))
-}
-
-#[test]
-fn no_step_gives_an_equal_frame(rt: HostRuntime) -> Result<(), Fail> {
-    let alloc = rt.alloc();
-    let document = read_document(alloc, DOCUMENT.as_bytes()).ok();
-    let document = document.ok_or("the text is a document")?;
-    assert_eq!(rt; document.steps.len(), 1);
-    let text = frame_text(alloc, &without_steps(alloc, &document.frame)?)?;
-    assert_eq!(rt;
-        text.as_slice(),
-        b"[\"k\",\"x\"]\n[\"Int64\",\"Int64\"]\n[7,0]\n[9,1]\n[7,2]\n[7,3]\n".as_slice()
-    );
     Ok(())
 }
 
@@ -251,52 +206,6 @@ fn a_column_from_outside_of_another_height_misfits(rt: HostRuntime) -> Result<()
     let alloc = rt.alloc();
     let made = run_beside(alloc, FILTER_BEFORE_OUTSIDE, OUTSIDE)?;
     assert!(rt; matches!(made, Err(PxError::ShapeMismatch)));
-    Ok(())
-}
-
-fn counted_totals<L: Ledger, M: Ledger>(
-    alloc: Global,
-    frame: &DataFrame,
-    kernels: Blank,
-    groupings: Blank,
-) -> Px<DataFrame>
-    requires kernels_name { kernels.name ≡ L.name }
-    requires kernels_parts { kernels.parts ≡ L.parts }
-    requires kernels_some { 0 < kernels.parts }
-    requires groupings_name { groupings.name ≡ M.name }
-    requires groupings_parts { groupings.parts ≡ M.parts }
-    requires groupings_some { 0 < groupings.parts }
-{
-    let mut kernels = Steps::<L>::new(kernels);
-    let mut groupings = Steps::<M>::new(groupings);
-    totals(alloc, frame, &mut kernels, &mut groupings)
-}
-
-fn totals_of(alloc: Global, frame: &DataFrame) -> Px<DataFrame> {
-    counted_totals::<Brand, Brand>(alloc, frame, Blank::new(1), Blank::new(1))
-}
-
-#[test]
-fn a_library_calls_the_steps(rt: HostRuntime) -> Result<(), Fail> {
-    let alloc = rt.alloc();
-    let document = read_document(alloc, DOCUMENT.as_bytes()).ok();
-    let document = document.ok_or("the text is a document")?;
-    let text = frame_text(alloc, &totals_of(alloc, &document.frame)?)?;
-    assert_eq!(rt; text.as_slice(), TEXT.as_bytes());
-    Ok(())
-}
-
-#[test]
-fn faults_have_lines(rt: HostRuntime) -> Result<(), Fail> {
-    let alloc = rt.alloc();
-    let missing = PxError::ColumnNotFound(Name::new(alloc, "y\"")?);
-    let line = error_line(alloc, &missing)?;
-    assert_eq!(rt;
-        line.as_slice(),
-        b"error: ColumnNotFound(\"y\\\"\")\n".as_slice()
-    );
-    let line = error_line(alloc, &PxError::OutOfBounds)?;
-    assert_eq!(rt; line.as_slice(), b"error: OutOfBounds\n".as_slice());
     Ok(())
 }
 

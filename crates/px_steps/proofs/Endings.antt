@@ -7,7 +7,7 @@ use Rattle.px_frame.specs.External.{alone}
 use Rattle.px_steps.specs.Causes.{IsCauseIn}
 use Rattle.px_document.specs.Document.{Doc}
 use Rattle.px_ends.specs.Ends.{IsTooLong, Rose, TakesAll, TakesPart}
-use Rattle.px_document.specs.Label.{bad_document_line}
+use Rattle.px_text.specs.Label.{bad_document_line}
 use Rattle.px_steps.specs.Plain.{AreValid}
 use Rattle.px_document.specs.DocumentText.{IsDocument}
 use Rattle.px_steps.specs.Reply.{IsNoDocument, IsRefusal}

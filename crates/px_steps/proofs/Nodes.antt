@@ -6,7 +6,7 @@ use Rattle.px_value.specs.declared.error.PxError.{PxError}
 use Rattle.px_answers.specs.Planned.{Planned}
 use Rattle.px_expr.specs.NodeView.{plan_of}
 use Rattle.px_expr.specs.Plan.{planned_over}
-use Rattle.px_expr.specs.declared.phys_expr.PhysExpr.{PhysExpr}
+use Rattle.px_physical.specs.declared.phys_expr.PhysExpr.{PhysExpr}
 use Rattle.px_frame.specs.External.{Frame, scope_of}
 use Rattle.px_tree.specs.Tree.{Tree}
 use Rattle.px_tree.specs.Typing.{Scope, fails, first_or_kind, kind_in, refusals_of, refused_where, type_of}

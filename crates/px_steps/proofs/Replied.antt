@@ -10,12 +10,12 @@ use Rattle.px_frame.specs.Frame.{height_of}
 use Rattle.px_tree.specs.Chunks.{is_unchunked}
 use Rattle.px_steps.specs.Causes.{AreRun, IsCauseIn}
 use Rattle.px_document.specs.Document.{Doc}
-use Rattle.px_document.specs.Label.{line_of}
+use Rattle.px_text.specs.Label.{line_of}
 use Rattle.px_answers.specs.Counted.{RisesAtMost}
 use Rattle.px_steps.specs.Plain.{groupings_of, kernels_of, most_kernels_of, plain_on}
 use Rattle.px_document.specs.DocumentText.{IsDocument}
 use Rattle.px_steps.specs.Reply.{IsResult, IsRefusal}
-use Rattle.px_document.specs.Text.{text_of}
+use Rattle.px_text.specs.Text.{text_of}
 
 -- the steps of a document have no chunks
 pub document_unchunked : (bytes : List ℕ) (doc : Doc) → IsDocument bytes doc → list_all is_unchunked doc.steps ≡ true

@@ -35,7 +35,7 @@ use Rattle.px_steps.specs.Causes.{IsStepCause, StepAnswers}
 use Rattle.px_steps.specs.Plain.{first_of, first_refusal, frame_refusals, greatest, named_value, misfit_faults, refused_by, repeat_refusal, step_on, step_refusals, uneven_fault, with_columns}
 use Rattle.px_tree.specs.Step.{PlainStep, select}
 use Rattle.px_expr.specs.NodeView.{plan_of}
-use Rattle.px_expr.specs.declared.phys_expr.PhysExpr.{PhysExpr}
+use Rattle.px_physical.specs.declared.phys_expr.PhysExpr.{PhysExpr}
 use Rattle.px_value.proofs.EachLaws.{each_maps}
 use Rattle.px_steps.proofs.Named.{IsFirst_append, refuses_first, refuses_none}
 use Rattle.px_tree.proofs.KindLaws.{There, kind_there, none_left as nil_left, none_right as nil_right}

@@ -10,7 +10,7 @@ use Rattle.px_value.specs.declared.error.InvalidWhy.TheVariants.{ListKey}
 use Rattle.px_value.specs.declared.error.ComputeWhy.TheVariants.{TooLong}
 use Rattle.px_expr.specs.NodeView.{plan_of}
 use Rattle.px_expr.specs.Plan.{planned_over}
-use Rattle.px_expr.specs.declared.phys_expr.PhysExpr.{PhysExpr}
+use Rattle.px_physical.specs.declared.phys_expr.PhysExpr.{PhysExpr}
 use Rattle.px_answers.specs.Planned.{Planned}
 use Rattle.px_answers.specs.Value.{IsOneOf}
 use Rattle.px_frame.specs.External.{Frame, rows_of_frame, scope_of}

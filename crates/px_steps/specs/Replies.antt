@@ -1,6 +1,6 @@
 -- What a reply tells of its input.
 use Rattle.std.specs.Prelude.{◌≡◌, ◌≤◌, ℕ, ◌+◌, List}
-use Rattle.px_document.specs.Label.{bad_document_line}
+use Rattle.px_text.specs.Label.{bad_document_line}
 use Rattle.px_document.specs.Document.{Doc}
 use Rattle.px_frame.specs.External.{alone}
 use Rattle.px_answers.specs.Counted.{RisesAtMost}

@@ -6,11 +6,11 @@ use Rattle.px_value.specs.declared.error.PxError.TheVariants.{OutOfMemory}
 use Rattle.px_frame.specs.Frame.{height_of}
 use Rattle.px_document.specs.Document.{Doc}
 use Rattle.px_document.specs.DocumentText.{IsDocument}
-use Rattle.px_document.specs.Label.{line_of, bad_document_line}
+use Rattle.px_text.specs.Label.{line_of, bad_document_line}
 use Rattle.px_frame.specs.External.{alone}
 use Rattle.px_steps.specs.Causes.{AreRun, IsCauseIn}
 use Rattle.px_steps.specs.Plain.{plain_on}
-use Rattle.px_document.specs.Text.{text_of}
+use Rattle.px_text.specs.Text.{text_of}
 
 -- the steps are run one after another, and the text is that of the frame which they make
 pub record IsResult (bytes text : List ℕ) : Type 0 where

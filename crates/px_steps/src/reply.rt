@@ -2,15 +2,16 @@
 ghost use Rattle.std.specs.Prelude.{◌≡◌, ℕ, List, IfOk, OnOk};
 ghost use Rattle.px_value.specs.declared.error.PxError.TheVariants.{OutOfMemory};
 ghost use Rattle.px_frame.specs.Frame.{height_of};
-ghost use Rattle.px_document.specs.Label.{line_of};
+ghost use Rattle.px_text.specs.Label.{line_of};
 ghost use Rattle.px_steps.specs.Replies.{Bounded, Grouped, Replies, Ticked};
-ghost use Rattle.px_document.specs.Text.{text_of};
+ghost use Rattle.px_text.specs.Text.{text_of};
 ghost use Rattle.px_steps.specs.declared.reply.Reply.TheVariants.{Frame, Refusal};
 
 use crate::runner::run_steps;
 use px_column::{ByteString, PxError, Steps};
-use px_document::{DocumentFault, error_line, frame_text, read_document};
+use px_document::{DocumentFault, read_document};
 use px_frame::DataFrame;
+use px_text::{error_line, frame_text};
 use px_window::ExecutionState;
 use std::alloc::{AllocError, Global};
 use std::sync::ledger::Ledger;

@@ -2,7 +2,7 @@
 ghost use Rattle.std.specs.Prelude.{◌≡◌, ◌≢◌, ◌↔◌, ◌⊎◌, ◌+◌, ◌≤◌, ℕ, List, [], Some, None, IfSome, IsTrue, map, string_bytes};
 ghost use Rattle.px_document.specs.Document.{Doc};
 ghost use Rattle.px_ends.specs.Ends.{GivesFront, Rose, TakesAll, TakesPart};
-ghost use Rattle.px_document.specs.Label.{bad_document_line};
+ghost use Rattle.px_text.specs.Label.{bad_document_line};
 ghost use Rattle.px_frame.specs.External.{alone};
 ghost use Rattle.px_answers.specs.Counted.{RisesAtMost};
 ghost use Rattle.px_steps.specs.Plain.{AreValid, groupings_of, kernels_of, most_kernels_of};

@@ -1,17 +1,16 @@
 //! Nodes that are evaluated on a frame, or without one.
 ghost use Rattle.std.specs.Prelude.{◌≡◌, ◌<◌};
 
-use crate::told::{four_rows, frame, told};
+use crate::trees::put;
 use indexmap::IndexSet;
-use px_column::{CastOptions, Column, DataType, GroupByMethod, Name, Px, PxError, Steps};
+use px_column::{CastOptions, Column, DataType, GroupByMethod, Name, Px, Steps};
 use px_expr::{
     AggregationExpr, AggregationType, ColumnExpr, ExpressionConversionState, LiteralExpr, PhysExpr,
     PhysicalExpr, create_physical_expr,
 };
 use px_frame::{DataFrame, Field, Schema, SchemaRef};
-use px_plan::{
-    Arena, Context, Expr, ExprIR, Exprs, FunctionExpr, LiteralValue, fits_arena, to_arena,
-};
+use px_plan::{Arena, Context, Expr, ExprIR, Exprs, FunctionExpr, LiteralValue};
+use px_trial_texts::{four_rows, frame, is_text, text_of_column};
 use px_window::ExecutionState;
 use std::alloc::Global;
 use std::marker::Brand;
@@ -34,12 +33,9 @@ fn five_under(alloc: Global, aliases: u32) -> Px<Expr> {
 }
 
 // The node of an expression that reads no column.
-fn planned(alloc: Global, expr: &Expr) -> Px<PhysExpr> {
+fn plan(alloc: Global, expr: &Expr) -> Px<PhysExpr> {
     let mut arena = Arena::new(alloc)?;
-    if !fits_arena(expr, &arena) {
-        return Err(PxError::OutOfBounds);
-    }
-    let expr = ExprIR::new(to_arena(alloc, expr, &mut arena)?, None);
+    let expr = ExprIR::new(put(alloc, expr, &mut arena)?, None);
     let schema = Rc::new(alloc, Schema::new(alloc)?)?;
     let mut noted = ExpressionConversionState::new(0);
     create_physical_expr(alloc, &expr, Context::Default, &arena, &schema, &mut noted)
@@ -48,7 +44,7 @@ fn planned(alloc: Global, expr: &Expr) -> Px<PhysExpr> {
 // The value without a frame, where it is there.
 fn inline(alloc: Global, node: &PhysExpr) -> Px<Name> {
     match node.evaluate_inline(alloc)? {
-        Some(column) => told(alloc, Ok(column)),
+        Some(column) => text_of_column(alloc, Ok(column)),
         None => Name::new(alloc, "none"),
     }
 }
@@ -60,7 +56,7 @@ fn inline_literal(alloc: Global, value: LiteralValue) -> Px<Name> {
 
 fn inline_under(alloc: Global, aliases: u32) -> Px<Name> {
     let expr = five_under(alloc, aliases)?;
-    let node = planned(alloc, &expr)?;
+    let node = plan(alloc, &expr)?;
     inline(alloc, &node)
 }
 
@@ -75,7 +71,7 @@ fn number(alloc: Global, text: &str) -> Px<Expr> {
 }
 
 fn inline_number(alloc: Global, text: &str) -> Px<Name> {
-    let node = planned(alloc, &number(alloc, text)?)?;
+    let node = plan(alloc, &number(alloc, text)?)?;
     inline(alloc, &node)
 }
 
@@ -84,7 +80,7 @@ fn inline_is_null(alloc: Global, text: &str) -> Px<Name> {
     let items = Rc::new(alloc, vec![in alloc; cast]?)?;
     let input = Exprs { items };
     let function = FunctionExpr::IsNull;
-    let node = planned(alloc, &Expr::Function { input, function })?;
+    let node = plan(alloc, &Expr::Function { input, function })?;
     inline(alloc, &node)
 }
 
@@ -97,33 +93,38 @@ const RANGE: LiteralValue = LiteralValue::Range {
 #[test]
 fn a_literal_has_its_value_without_a_frame(rt: HostRuntime) -> Result<(), Fail> {
     let alloc = rt.alloc();
-    let text = inline_literal(alloc, LiteralValue::Int64(5))?;
-    assert_eq!(rt; text.as_str(), "[\"literal\"]\n[\"Int64\"]\n[5]\n");
-    assert_eq!(rt; inline_literal(alloc, RANGE)?.as_str(), "none");
-    assert_eq!(rt;
-        inline_under(alloc, 4)?.as_str(),
-        "[\"t\"]\n[\"Int64\"]\n[5]\n"
+    assert!(rt;
+        is_text(
+            inline_literal(alloc, LiteralValue::Int64(5)),
+            "[\"literal\"]\n[\"Int64\"]\n[5]\n"
+        )?
     );
-    assert_eq!(rt; inline_under(alloc, 5)?.as_str(), "none");
+    assert!(rt; is_text(inline_literal(alloc, RANGE), "none")?);
+    assert!(rt; is_text(inline_under(alloc, 4), "[\"t\"]\n[\"Int64\"]\n[5]\n")?);
+    assert!(rt; is_text(inline_under(alloc, 5), "none")?);
     Ok(())
 }
 
 #[test]
 fn a_cast_and_a_function_have_their_value_without_a_frame(rt: HostRuntime) -> Result<(), Fail> {
     let alloc = rt.alloc();
-    assert_eq!(rt;
-        inline_number(alloc, "7")?.as_str(),
-        "[\"literal\"]\n[\"Int64\"]\n[7]\n"
+    assert!(rt;
+        is_text(
+            inline_number(alloc, "7"),
+            "[\"literal\"]\n[\"Int64\"]\n[7]\n"
+        )?
     );
-    assert_eq!(rt; inline_number(alloc, "x")?.as_str(), "none");
-    assert_eq!(rt;
-        inline_is_null(alloc, "7")?.as_str(),
-        "[\"literal\"]\n[\"Boolean\"]\n[false]\n"
+    assert!(rt; is_text(inline_number(alloc, "x"), "none")?);
+    assert!(rt;
+        is_text(
+            inline_is_null(alloc, "7"),
+            "[\"literal\"]\n[\"Boolean\"]\n[false]\n"
+        )?
     );
     Ok(())
 }
 
-fn counted<L: Ledger, M: Ledger>(
+fn value_with_counters<L: Ledger, M: Ledger>(
     alloc: Global,
     node: &PhysExpr,
     df: &DataFrame,
@@ -144,8 +145,8 @@ fn counted<L: Ledger, M: Ledger>(
 }
 
 fn value(alloc: Global, node: &PhysExpr, df: &DataFrame) -> Px<Name> {
-    let value = counted::<Brand, Brand>(alloc, node, df, Blank::new(1), Blank::new(1));
-    told(alloc, value)
+    let value = value_with_counters::<Brand, Brand>(alloc, node, df, Blank::new(1), Blank::new(1));
+    text_of_column(alloc, value)
 }
 
 fn column(alloc: Global, name: &str, schema: SchemaRef) -> Px<PhysExpr> {
@@ -155,11 +156,12 @@ fn column(alloc: Global, name: &str, schema: SchemaRef) -> Px<PhysExpr> {
 }
 
 // What a node of a reserved name, over the schema of one column, finds on a frame.
-fn reserved_on(alloc: Global, df: &DataFrame) -> Px<Name> {
+fn reserved_on(alloc: Global, df: Px<DataFrame>) -> Px<Name> {
+    let df = df?;
     let one = frame(alloc, r#"[{"name":"k","type":"Int64","values":[]}]"#)?;
     let schema = Rc::new(alloc, one.schema(alloc)?)?;
     let node = column(alloc, "__POLARS_CSER_1", schema)?;
-    value(alloc, &node, df)
+    value(alloc, &node, &df)
 }
 
 // A frame of that name at place 1.
@@ -169,15 +171,17 @@ const BEHIND: &str =
 #[test]
 fn a_reserved_name_is_found_behind_the_schema(rt: HostRuntime) -> Result<(), Fail> {
     let alloc = rt.alloc();
-    let text = reserved_on(alloc, &frame(alloc, BEHIND)?)?;
-    assert_eq!(rt;
-        text.as_str(),
-        "[\"__POLARS_CSER_1\"]\n[\"Int64\"]\n[3]\n[4]\n"
+    assert!(rt;
+        is_text(
+            reserved_on(alloc, frame(alloc, BEHIND)),
+            "[\"__POLARS_CSER_1\"]\n[\"Int64\"]\n[3]\n[4]\n"
+        )?
     );
-    let text = reserved_on(alloc, &four_rows(alloc)?)?;
-    assert_eq!(rt;
-        text.as_str(),
-        "error: ColumnNotFound(\"__POLARS_CSER_1\")\n"
+    assert!(rt;
+        is_text(
+            reserved_on(alloc, four_rows(alloc)),
+            "error: ColumnNotFound(\"__POLARS_CSER_1\")\n"
+        )?
     );
     Ok(())
 }
@@ -207,6 +211,11 @@ fn field_of_sum(alloc: Global) -> Px<Field> {
     node.to_field(alloc, &schema)
 }
 
+fn name_of_sum(alloc: Global) -> Px<Name> {
+    let field = field_of_sum(alloc)?;
+    field.name.try_clone(alloc)
+}
+
 fn live_of_sum(alloc: Global) -> Px<IndexSet<Name>> {
     let node = sum(alloc, schema(alloc)?)?;
     let mut live = IndexSet::new(alloc);
@@ -229,11 +238,8 @@ fn sum_is_scalar(alloc: Global) -> Px<bool> {
 #[test]
 fn a_sum_has_a_value_a_field_and_a_live_column(rt: HostRuntime) -> Result<(), Fail> {
     let alloc = rt.alloc();
-    assert_eq!(rt;
-        value_of_sum(alloc)?.as_str(),
-        "[\"x\"]\n[\"Int64\"]\n[6]\n"
-    );
-    assert_eq!(rt; field_of_sum(alloc)?.name.as_str(), "x");
+    assert!(rt; is_text(value_of_sum(alloc), "[\"x\"]\n[\"Int64\"]\n[6]\n")?);
+    assert!(rt; is_text(name_of_sum(alloc), "x")?);
     assert_eq!(rt; place_of_live(alloc)?, Some(0));
     assert!(rt; sum_is_scalar(alloc)?);
     Ok(())

@@ -1,29 +1,34 @@
 //! From expressions in an arena to nodes, and what is noted on the way.
-ghost use Rattle.std.specs.Prelude.{IfOk};
+ghost use Rattle.std.specs.Prelude.{◌<◌, IfOk, length};
 ghost use Rattle.px_expr.specs.Plan.{IsPlannable};
 
-use crate::told::{four_rows, refused};
+use crate::trees::put;
 use px_column::{ComputeWhy, Name, Px, PxError};
 use px_expr::{
     ExpressionConversionState, LocalConversionState, PhysExpr, create_physical_expr,
     create_physical_expressions_from_irs, get_expr_depth_limit,
 };
 use px_frame::SchemaRef;
-use px_plan::{Arena, Context, Expr, ExprIR, fits_arena, to_arena};
+use px_plan::{Arena, Context, Expr, ExprIR, Node};
+use px_trial_texts::{four_rows, is_text, text_of_refusal};
 use std::alloc::Global;
 use std::default::Default;
 use std::rc::Rc;
 use std::test::Fail;
 
-// The column of a name, in an arena that has room for it.
+// Adds the column of a name to an arena.
+fn put_column(alloc: Global, name: &str, arena: &mut Arena) -> Px<Node>
+    ensures { IfOk result (λ node. node.0 < length arena.new) }
+{
+    let expr = Expr::Column(Name::new(alloc, name)?);
+    put(alloc, &expr, arena)
+}
+
+// The column of a name, in an arena.
 fn column_in(alloc: Global, name: &str, arena: &mut Arena) -> Px<ExprIR>
     ensures { IfOk result (IsPlannable arena.new) }
 {
-    let expr = Expr::Column(Name::new(alloc, name)?);
-    if !fits_arena(&expr, arena) {
-        return Err(PxError::OutOfBounds);
-    }
-    Ok(ExprIR::new(to_arena(alloc, &expr, arena)?, None))
+    Ok(ExprIR::new(put_column(alloc, name, arena)?, None))
 }
 
 fn schema(alloc: Global) -> Px<SchemaRef> {
@@ -32,21 +37,21 @@ fn schema(alloc: Global) -> Px<SchemaRef> {
 }
 
 // The name of a column's node, or the line of a refusal.
-fn told_node(alloc: Global, answer: Px<PhysExpr>) -> Px<Name> {
+fn text_of_node(alloc: Global, answer: Px<PhysExpr>) -> Px<Name> {
     match answer {
         Ok(PhysExpr::Column(node)) => node.name().try_clone(alloc),
         Ok(_) => Err(PxError::OutOfBounds),
-        Err(error) => refused(alloc, error),
+        Err(error) => text_of_refusal(alloc, error),
     }
 }
 
 // Plans a column over four rows of `k` and `x`.
-fn planned(alloc: Global, name: &str, state: &mut ExpressionConversionState) -> Px<Name> {
+fn plan_column(alloc: Global, name: &str, state: &mut ExpressionConversionState) -> Px<Name> {
     let schema = schema(alloc)?;
     let mut arena = Arena::new(alloc)?;
     let expr = column_in(alloc, name, &mut arena)?;
     let node = create_physical_expr(alloc, &expr, Context::Default, &arena, &schema, state);
-    told_node(alloc, node)
+    text_of_node(alloc, node)
 }
 
 fn last_of(nodes: Px<Vec<PhysExpr>>) -> Px<PhysExpr> {
@@ -55,7 +60,7 @@ fn last_of(nodes: Px<Vec<PhysExpr>>) -> Px<PhysExpr> {
 }
 
 // Plans a column as the one expression of a list.
-fn all_planned(alloc: Global, name: &str, state: &mut ExpressionConversionState) -> Px<Name> {
+fn plan_all(alloc: Global, name: &str, state: &mut ExpressionConversionState) -> Px<Name> {
     let schema = schema(alloc)?;
     let mut arena = Arena::new(alloc)?;
     let exprs = [column_in(alloc, name, &mut arena)?];
@@ -67,17 +72,17 @@ fn all_planned(alloc: Global, name: &str, state: &mut ExpressionConversionState)
         &schema,
         state,
     );
-    told_node(alloc, last_of(nodes))
+    text_of_node(alloc, last_of(nodes))
 }
 
 #[test]
 fn a_path_as_long_as_the_limit_is_noted(rt: HostRuntime) -> Result<(), Fail> {
     let alloc = rt.alloc();
     let mut state = ExpressionConversionState::new(1);
-    assert_eq!(rt; planned(alloc, "x", &mut state)?.as_str(), "x");
+    assert!(rt; is_text(plan_column(alloc, "x", &mut state), "x")?);
     assert!(rt; state.too_deep && !state.has_windows);
     let mut state = ExpressionConversionState::new(1);
-    assert_eq!(rt; all_planned(alloc, "x", &mut state)?.as_str(), "x");
+    assert!(rt; is_text(plan_all(alloc, "x", &mut state), "x")?);
     assert!(rt; state.too_deep && !state.has_windows);
     Ok(())
 }

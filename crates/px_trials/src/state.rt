@@ -1,6 +1,6 @@
 //! The state of an evaluation and its flags.
 
-use crate::told::four_rows;
+use px_trial_texts::four_rows;
 use px_window::{ExecutionState, StateFlags};
 use std::convert::From;
 use std::default::Default;

@@ -221,7 +221,7 @@ fn part_values(
 }
 
 /// An aggregation as a column, with a row for each part.
-fn aggregated(alloc: Global, frame: &DataFrame, parts: &[Vec<u32>], agg: &Aggregation) -> Px<Column>
+fn aggregate(alloc: Global, frame: &DataFrame, parts: &[Vec<u32>], agg: &Aggregation) -> Px<Column>
     requires few { length parts.now < 2 ^ 32 }
     requires parts { All (λ p. IsPart (height_of frame.now) p.items) parts.now }
     ensures { Meets result (agg_refusals (alone frame.now) (tree_of agg.now)) (aggregated_on (alone frame.now) (map (λ p. p.items) parts.now) (tree_of agg.now)) }
@@ -231,7 +231,7 @@ fn aggregated(alloc: Global, frame: &DataFrame, parts: &[Vec<u32>], agg: &Aggreg
     Column::from_values(alloc, name_of(alloc, agg)?, dtype, values)
 }
 
-fn aggregated_columns(
+fn aggregate_columns(
     alloc: Global,
     frame: &DataFrame,
     parts: &[Vec<u32>],
@@ -244,13 +244,13 @@ fn aggregated_columns(
 {
     let mut columns = Vec::new(alloc);
     for agg in aggs {
-        columns.push(aggregated(alloc, frame, parts, agg)?)?;
+        columns.push(aggregate(alloc, frame, parts, agg)?)?;
     }
     Ok(columns)
 }
 
 /// The keys' values and then each aggregation's, for each part of the frame by these keys.
-fn grouped_columns(
+fn group_columns(
     alloc: Global,
     frame: &DataFrame,
     by: &[Column],
@@ -260,7 +260,7 @@ fn grouped_columns(
 {
     let parts = plain_parts(alloc, by, frame.height())?;
     let mut columns = first_values(alloc, by, &parts)?;
-    let mut values = aggregated_columns(alloc, frame, &parts, aggs)?;
+    let mut values = aggregate_columns(alloc, frame, &parts, aggs)?;
     columns.append(&mut values)?;
     Ok(columns)
 }
@@ -281,5 +281,5 @@ pub fn plain_group_step(
         return Err(PxError::ComputeError(ComputeWhy::NoKey));
     }
     let by = key_columns(alloc, frame, keys)?;
-    DataFrame::new(alloc, grouped_columns(alloc, frame, &by, aggs)?)
+    DataFrame::new(alloc, group_columns(alloc, frame, &by, aggs)?)
 }

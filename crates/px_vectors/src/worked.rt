@@ -8,12 +8,12 @@ ghost use Rattle.px_value.specs.declared.error.ComputeWhy.TheVariants.{NoKey};
 ghost use Rattle.px_frame.specs.External.{alone};
 ghost use Rattle.px_frame.specs.Parts.{parts_of};
 ghost use Rattle.px_tree.specs.Tree.{column, len};
-ghost use Rattle.px_document.specs.Label.{line_of, bad_document_line};
+ghost use Rattle.px_text.specs.Label.{line_of, bad_document_line};
 ghost use Rattle.px_steps.specs.Plain.{columns_made, first_refusal};
 ghost use Rattle.px_steps.specs.Reply.{IsNoDocument, IsRefusal, IsResult};
 ghost use Rattle.px_tree.specs.Step.{group};
 ghost use Rattle.px_document.specs.StepForm.{any_document_of};
-ghost use Rattle.px_document.specs.Text.{kind_name, quoted, slot_text, text_of};
+ghost use Rattle.px_text.specs.Text.{kind_name, quoted, slot_text, text_of};
 ghost use Rattle.px_vectors.specs.Worked.{num, int64_column, uint32_column, keyed, four_rows, null_keys, four_grouped, sum_column, sum_and_len, by_k};
 ghost use Rattle.px_vectors.specs.WorkedDocument.{group_data, document_data, four_rows_doc, document_text};
 

@@ -4,14 +4,12 @@ ghost use Rattle.px_column.specs.Prelude.{AnswersBy};
 ghost use Rattle.px_tree.specs.Shape.{is_unit_call, is_unit_first, are_units};
 ghost use Rattle.px_tree.specs.Tree.{called};
 ghost use Rattle.px_tree.specs.View.{tree};
-ghost use Rattle.px_expr.specs.NodeView.{plan_of};
+ghost use Rattle.px_physical.specs.NodeView.{plan_of};
 ghost use Rattle.px_answers.specs.Parts.{call_in, call_on, plan_trees, plan_columns};
 
-use crate::apply::ApplyExpr;
-use crate::phys_expr::PhysExpr;
-use crate::physical::PhysicalExpr;
 use px_column::{DataType, Name, Px};
 use px_frame::{Field, SchemaRef};
+use px_physical::{ApplyExpr, PhysExpr, PhysicalExpr};
 use px_plan::{Expr, FunctionExpr};
 use std::alloc::Global;
 
@@ -28,13 +26,10 @@ pub(crate) fn plan_apply(
     requires function { called (call_in (tree expr.now)) ≡ function }
     ensures { AnswersBy plan_of result (Ok (record { tree = tree expr.now; columns = plan_columns (map plan_of inputs.items) })) }
 {
-    let expr = expr.try_clone(alloc)?;
     let returns_scalar = is_scalar_call(function, &inputs);
-    let output_field = Field {
-        name: Name::new(alloc, "")?,
-        dtype: DataType::Null,
-    };
+    let output_field = no_field(alloc)?;
     let input_schema = schema.clone()?;
+    let expr = expr.try_clone(alloc)?;
     Ok(PhysExpr::Apply(ApplyExpr::new(
         inputs,
         function,
@@ -43,6 +38,17 @@ pub(crate) fn plan_apply(
         output_field,
         returns_scalar,
     )))
+}
+
+/// A field without a name and a type.
+fn no_field(alloc: Global) -> Px<Field>
+    ensures { AnswersBy (λ _. tt {0}) result (Ok (tt {0})) }
+{
+    let name = Name::new(alloc, "")?;
+    Ok(Field {
+        name,
+        dtype: DataType::Null,
+    })
 }
 
 /// Whether a function of these nodes has one value, whatever the frame.

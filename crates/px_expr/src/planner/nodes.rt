@@ -3,29 +3,19 @@ ghost use Rattle.std.specs.Prelude.{◌≡◌, ◌++◌, [], map, Ok};
 ghost use Rattle.px_column.specs.Prelude.{AnswersBy, kind_of};
 ghost use Rattle.px_tree.specs.Tree.{column, literal, alias, binary, ternary, cast, filter, slice, gather, sort, sort_by, agg, window};
 ghost use Rattle.px_tree.specs.View.{tree, literal_of};
-ghost use Rattle.px_expr.specs.NodeView.{order_of, plan_of};
+ghost use Rattle.px_physical.specs.NodeView.{order_of, plan_of};
 ghost use Rattle.px_answers.specs.Parts.{order_columns, plan_order, plan_trees, plan_columns, under};
 ghost use Rattle.px_expr.specs.Plan.{planned_over};
 
-use crate::aggregation::{AggregationExpr, AggregationType};
-use crate::alias::AliasExpr;
-use crate::binary::BinaryExpr;
-use crate::cast::CastExpr;
-use crate::column::ColumnExpr;
-use crate::filter::FilterExpr;
-use crate::gather::GatherExpr;
-use crate::literal::LiteralExpr;
-use crate::phys_expr::PhysExpr;
-use crate::physical::PhysicalExpr;
-use crate::slice::SliceExpr;
-use crate::sort::SortExpr;
-use crate::sort_by::SortByExpr;
-use crate::ternary::TernaryExpr;
-use crate::window::WindowExpr;
 use px_column::{
     CastOptions, DataType, GroupByMethod, Name, Operator, Px, SortMultipleOptions, SortOptions,
 };
 use px_frame::SchemaRef;
+use px_physical::{
+    AggregationExpr, AggregationType, AliasExpr, BinaryExpr, CastExpr, ColumnExpr, FilterExpr,
+    GatherExpr, LiteralExpr, PhysExpr, PhysicalExpr, SliceExpr, SortByExpr, SortExpr, TernaryExpr,
+    WindowExpr,
+};
 use px_plan::{Expr, LiteralValue, WindowMapping};
 use std::alloc::Global;
 
@@ -51,8 +41,9 @@ pub(crate) fn plan_alias(alloc: Global, input: PhysExpr, name: &Name, expr: Expr
     requires { tree expr ≡ (plan_of input).tree }
     ensures { AnswersBy plan_of result (Ok (record (plan_of input) { tree = alias (plan_of input).tree name.now })) }
 {
+    let name = name.try_clone(alloc)?;
     let input = Box::new(alloc, input)?;
-    Ok(PhysExpr::Alias(AliasExpr::new(input, name.try_clone(alloc)?, expr)))
+    Ok(PhysExpr::Alias(AliasExpr::new(input, name, expr)))
 }
 
 /// An operator on two nodes, with the expression of the two.

@@ -3,7 +3,7 @@ use Rattle.px_arena.proofs.Shapes.{tree-BinaryExpr, tree-Ternary, tree-Filter, t
 use Rattle.px_tree.specs.Nodes.{leaf_names, all_leaf_names, order_leaf_names}
 use Rattle.px_tree.specs.Tree.{by_name, sort_by, window}
 use Rattle.px_tree.specs.View.{order_tree, tree, trees}
-use Rattle.px_expr.specs.NodeView.{order_of, plan_of}
+use Rattle.px_physical.specs.NodeView.{order_of, plan_of}
 use Rattle.px_expr.specs.Plan.{function_of}
 use Rattle.px_expr.proofs.PlannedOver.{tree-Function, two_over, three_over, list_over, one_and_list_over, call_over, sort_by_over, window_over, window_tree_over}
 use Rattle.px_expr.proofs.planner.+plan_expr.Goals as goal

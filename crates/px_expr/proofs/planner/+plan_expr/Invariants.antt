@@ -1,7 +1,7 @@
 use Rattle.std.proofs.Common.{◌≡◌, ◌++◌, drop, map}
 use Rattle.px_tree.specs.Tree.{trees_of}
 use Rattle.px_tree.specs.View.{tree}
-use Rattle.px_expr.specs.NodeView.{plan_of}
+use Rattle.px_physical.specs.NodeView.{plan_of}
 use Rattle.px_expr.specs.Plan.{all_planned_over}
 use Rattle.px_expr.proofs.planner.+plan_expr.Given as goal
 

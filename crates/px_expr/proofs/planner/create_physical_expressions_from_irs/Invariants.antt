@@ -1,7 +1,7 @@
 use Rattle.std.proofs.Common.{◌≡◌, Ok, drop, map, take}
 use Rattle.px_expr.proofs.Planning.{followed_by}
 use Rattle.px_expr.proofs.planner.create_physical_expressions_from_irs.Given as goal
-use Rattle.px_expr.specs.NodeView.{plan_of}
+use Rattle.px_physical.specs.NodeView.{plan_of}
 use Rattle.px_expr.specs.Plan.{all_noted, plans_in}
 
 abbrev pub invariant-loop-expr_ir : goal.invariant-loop-expr_ir

@@ -1,7 +1,7 @@
 use Rattle.px_trials.proofs.nodes.value.Given as goal
 
-abbrev pub ghosts-counted-L-Ledger : goal.ghosts-counted-L-Ledger
-ghosts-counted-L-Ledger a = record { name = a.kernels.name; parts = a.kernels.parts }
+abbrev pub ghosts-value_with_counters-L-Ledger : goal.ghosts-value_with_counters-L-Ledger
+ghosts-value_with_counters-L-Ledger a = record { name = a.kernels.name; parts = a.kernels.parts }
 
-abbrev pub ghosts-counted-M-Ledger : goal.ghosts-counted-M-Ledger
-ghosts-counted-M-Ledger a = record { name = a.groupings.name; parts = a.groupings.parts }
+abbrev pub ghosts-value_with_counters-M-Ledger : goal.ghosts-value_with_counters-M-Ledger
+ghosts-value_with_counters-M-Ledger a = record { name = a.groupings.name; parts = a.groupings.parts }

@@ -22,19 +22,19 @@ returns-in_err-by c =
     rw (p.1, p.2)
     (IsFirst_append e (typed_group_refusals over keys aggs) [] (keys_first e keys aggs over (some_key c.args.keys.now (sym c.is_empty.ensures ∙ c.if-is_empty.false)) c.in_err-by.ensures))
 
-pub returns-in_err-grouped_columns : goal.returns-in_err-grouped_columns
-returns-in_err-grouped_columns c =
-    let p = err_from_is_err_and c.from_residual-in_err-grouped_columns.result c.from_residual-in_err-grouped_columns.ensures.1 in
-    let e = c.in_err-grouped_columns.field-0.0 in
+pub returns-in_err-group_columns : goal.returns-in_err-group_columns
+returns-in_err-group_columns c =
+    let p = err_from_is_err_and c.from_residual-in_err-group_columns.result c.from_residual-in_err-group_columns.ensures.1 in
+    let e = c.in_err-group_columns.field-0.0 in
     let over = map column_field c.args.frame.now in
     let keys = map column c.args.keys.now in
     let aggs = map tree_of c.args.aggs.now in
     rw (p.1, p.2)
-    (IsFirst_append e (typed_group_refusals over keys aggs) [] (aggs_first e keys aggs over (some_key c.args.keys.now (sym c.is_empty.ensures ∙ c.if-is_empty.false)) c.in_ok-by.ensures.0 c.in_err-grouped_columns.ensures))
+    (IsFirst_append e (typed_group_refusals over keys aggs) [] (aggs_first e keys aggs over (some_key c.args.keys.now (sym c.is_empty.ensures ∙ c.if-is_empty.false)) c.in_ok-by.ensures.0 c.in_err-group_columns.ensures))
 
 pub returns : goal.returns
 returns c =
     let keys = c.in_ok-by.ensures in
-    let columns = c.in_ok-grouped_columns.ensures in
-    step_answer c.args.frame.now (map column c.args.keys.now) (map tree_of c.args.aggs.now) c.deref.result.now c.in_ok-grouped_columns.field-0.items c.new.result c.new.ensures.answer
+    let columns = c.in_ok-group_columns.ensures in
+    step_answer c.args.frame.now (map column c.args.keys.now) (map tree_of c.args.aggs.now) c.deref.result.now c.in_ok-group_columns.field-0.items c.new.result c.new.ensures.answer
     (some_key c.args.keys.now (sym c.is_empty.ensures ∙ c.if-is_empty.false)) (keys.1 ∙ ap Some (sym c.deref.ensures.value)) keys.0 columns.1 columns.0

@@ -1,6 +1,6 @@
 use Rattle.std.proofs.Common.{◌≡◌, drop, map}
 use Rattle.px_tree.specs.Shape.{are_units}
-use Rattle.px_expr.specs.NodeView.{plan_of}
+use Rattle.px_physical.specs.NodeView.{plan_of}
 use Rattle.px_answers.specs.Parts.{plan_trees}
 use Rattle.px_expr.proofs.planner.apply.are_scalars.Given as goal
 

@@ -1,4 +1,0 @@
-use Rattle.px_expr.proofs.inline.inline_cast.Given as goal
-
-abbrev pub ghosts-counted_cast : goal.ghosts-counted_cast
-ghosts-counted_cast a = record { name = a.kernels.name; parts = a.kernels.parts }

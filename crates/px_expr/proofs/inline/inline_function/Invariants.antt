@@ -1,4 +1,0 @@
-use Rattle.px_expr.proofs.inline.inline_function.Given as goal
-
-abbrev pub ghosts-counted_function : goal.ghosts-counted_function
-ghosts-counted_function a = record { name = a.kernels.name; parts = a.kernels.parts }

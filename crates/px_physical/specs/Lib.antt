@@ -1,0 +1,4 @@
+pub mod Deep
+pub mod NodeView
+pub mod Ordered
+pub mod Size

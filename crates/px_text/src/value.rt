@@ -1,0 +1,56 @@
+//! The text of values.
+ghost use Rattle.std.specs.Prelude.{◌≡◌, ◌++◌, OnOk};
+ghost use Rattle.std.specs.Fmt.{signed_decimal};
+ghost use Rattle.px_column.specs.Prelude.{slots, datum_of_ref, slot_of_ref};
+ghost use Rattle.px_text.specs.Text.{array, datum_text, item_texts, slot_text};
+
+use crate::json::{push_comma, push_hexadecimal, push_quoted};
+use itoa::Buffer;
+use px_column::{ValueRef, Values};
+use std::alloc::AllocError;
+
+fn push_integer(out: &mut Vec<u8>, value: i128) -> Result<(), AllocError>
+    ensures { OnOk result (out.new.items ≡ out.old.items ++ signed_decimal value) }
+{
+    let mut buffer = Buffer::new();
+    out.extend_from_slice(buffer.format(value).as_bytes())
+}
+
+#[cycle(push)]
+fn push_value(out: &mut Vec<u8>, value: ValueRef<'_>) -> Result<(), AllocError>
+    ensures { OnOk result (out.new.items ≡ out.old.items ++ datum_text (datum_of_ref value.entry)) }
+{
+    match value {
+        ValueRef::Boolean(true) => out.extend_from_slice(b"true"),
+        ValueRef::Boolean(false) => out.extend_from_slice(b"false"),
+        ValueRef::Int(z) => push_integer(out, z),
+        ValueRef::Text(s) => push_quoted(out, s),
+        ValueRef::Bytes(s) => push_hexadecimal(out, s),
+        ValueRef::List(all) => push_values(out, all),
+    }
+}
+
+#[cycle(push)]
+#[tactic(auto, using(crate::proofs::Separated::separated_joins, crate::proofs::Separated::slot_weight_at))]
+fn push_values(out: &mut Vec<u8>, values: &Values) -> Result<(), AllocError>
+    ensures { OnOk result (out.new.items ≡ out.old.items ++ array (item_texts (slots values.now))) }
+{
+    out.push(b'[')?;
+    for i in 0..values.len() {
+        push_comma(out, i as usize)?;
+        push_slot(out, values.get(i))?;
+    }
+    out.push(b']')?;
+    Ok(())
+}
+
+/// Appends what a place holds, as one JSON value.
+#[cycle(push)]
+pub(crate) fn push_slot(out: &mut Vec<u8>, slot: Option<ValueRef<'_>>) -> Result<(), AllocError>
+    ensures { OnOk result (out.new.items ≡ out.old.items ++ slot_text (slot_of_ref slot.entry)) }
+{
+    match slot {
+        None => out.extend_from_slice(b"null"),
+        Some(value) => push_value(out, value),
+    }
+}
