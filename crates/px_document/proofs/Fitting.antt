@@ -42,7 +42,7 @@ none_left : (xs : List Slot) → Some [] ≡ Some xs → length xs ≡ 0
 none_left xs e = let same : xs ≡ [] = cc in ap length same
 
 -- as many places as there are values to read
-each_length : (f : Data → Option Slot) (ds : List Data) (xs : List Slot) → each f ds ≡ Some xs → length xs ≡ length ds
+pub each_length : (f : Data → Option Slot) (ds : List Data) (xs : List Slot) → each f ds ≡ Some xs → length xs ≡ length ds
 each_length f [] xs e = none_left xs e
 each_length f (d ∷ ds) xs e = length_next (f d) (each f ds) (length ds) (each_length f ds) xs e
 

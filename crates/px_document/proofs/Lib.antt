@@ -3,3 +3,7 @@ pub mod Forms
 pub mod StepForms
 pub mod Readings
 pub mod Fitting
+pub mod Tokens
+pub mod Integers
+pub mod Places
+pub mod Along

@@ -1,5 +1,5 @@
 -- What a document says: columns, and the steps that are done with them.
-use Rattle.std.specs.Prelude.{ℕ, zero, suc, ◌+◌, ◌-◌, ◌*◌, ◌^◌, ◌&&◌, Bool, true, false, List, [], ◌∷◌, length, take, drop, nat_lt, Option, Some, None, is_some, map, option_map, if◌then◌else◌, codes}
+use Rattle.std.specs.Prelude.{ℕ, zero, suc, ◌+◌, ◌-◌, ◌*◌, ◌^◌, ◌&&◌, List, [], ◌∷◌, length, take, drop, nat_lt, Option, Some, None, is_some, map, option_map, if◌then◌else◌, codes}
 use Rattle.std.specs.Option.{option_or}
 use Rattle.std.specs.Str.{bytes_eq}
 use Rattle.serde_json.specs.Data.{Data}
@@ -81,12 +81,6 @@ place_of binaries d = unless_null d (option_map bytes (as_str d >>= bytes_of_hex
 place_of nulls d = unless_null d None
 place_of (lists k) d = unless_null d (items d >>= each (λ e. place_of k e) >>= short_list)
 place_of _ d = unless_null d (option_map integer (as_number d >>= as_integer))
-
--- whether JSON has the values of a type as they are: truths, integers and texts, or none at all
-abbrev pub is_plain_kind : Kind → Bool
-is_plain_kind binaries = false
-is_plain_kind (lists k) = false
-is_plain_kind _ = true
 
 -- a place whose value fits the type
 abbrev pub fitting_place : Kind → Data → Option Slot

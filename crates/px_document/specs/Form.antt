@@ -64,3 +64,10 @@ ReadsBy view (Err e) expected = Misses e expected
 abbrev pub Reads : {X : Type 0} → Result X DocumentFault → Option X → Type 0
 Reads (Ok x) expected = expected ≡ Some x
 Reads (Err e) expected = Misses e expected
+
+-- what was read along a text, where it could be read so: memory may be wanting, and there may be another way to read it
+abbrev pub IfRead : {X : Type 0} → Result (Option X) DocumentFault → (X → Type 0) → Type 0
+IfRead (Ok (Some x)) P = P x
+IfRead (Ok None) P = Unit {0}
+IfRead (Err OutOfMemory) P = Unit {0}
+IfRead (Err BadDocument) P = ⊥

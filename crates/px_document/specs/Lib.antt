@@ -1,5 +1,6 @@
 pub mod Form
 pub mod Document
+pub mod Tokens
 pub mod ExprForm
 pub mod StepForm
 pub mod Fault

@@ -36,10 +36,14 @@ any_step_of d =
 abbrev pub any_steps_of : List Data → Option (List PlainStep)
 any_steps_of ds = if nat_le (length ds) 64 then each any_step_of ds else None
 
+-- an array of steps
+abbrev pub steps_of : Data → Option (List PlainStep)
+steps_of d = items d >>= any_steps_of
+
 abbrev pub any_document_parts : List Data → Option Doc
 any_document_parts (c ∷ s ∷ []) = do
   columns ← items c >>= each column_of
-  steps ← items s >>= any_steps_of
+  steps ← steps_of s
   Some (record { columns = columns; steps = steps })
 any_document_parts _ = None
 

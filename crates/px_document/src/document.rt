@@ -1,12 +1,12 @@
 //! Documents: a frame's columns and the steps that are done with it, as one JSON text.
-ghost use Rattle.std.specs.Prelude.{◌≡◌, IfOk, Ok, Err, Some, None, IsUtf8};
+ghost use Rattle.std.specs.Prelude.{◌≡◌, IfOk, Ok, Err, Some, None, IsUtf8, option_and_then};
 ghost use Rattle.serde_json.specs.Read.{read as read_text};
 ghost use Rattle.serde_json.specs.View.{view};
 ghost use Rattle.px_document.specs.Document.{Doc, doc_view};
 ghost use Rattle.px_document.specs.DocumentText.{IsDocument, IsDocumentText};
 ghost use Rattle.px_document.specs.Form.{ReadsBy};
 ghost use Rattle.px_document.specs.DocumentView.{document_view};
-ghost use Rattle.px_document.specs.Readable.{is_readable_document, only_if};
+ghost use Rattle.px_document.specs.Readable.{is_readable_document};
 ghost use Rattle.px_document.specs.StepForm.{any_document_of};
 ghost use Rattle.px_document.specs.declared.document.fault.DocumentFault.TheVariants.{BadDocument};
 
@@ -16,6 +16,7 @@ mod fault;
 mod fields;
 mod function;
 mod hexadecimal;
+mod in_order;
 mod literal;
 mod names;
 mod options;
@@ -25,12 +26,14 @@ mod reduction;
 mod row_wise;
 mod selection;
 mod step;
+mod tokens;
 mod type_name;
 mod window;
 
 use column::read_columns;
 pub use fault::DocumentFault;
 use fields::{items, two_fields};
+use in_order::read_in_order;
 use parsed::Parsed;
 use px_column::PxError;
 use px_frame::DataFrame;
@@ -51,11 +54,10 @@ pub struct Document {
 /// The longest text that is read has one byte less.
 const SIZE_LIMIT: usize = 1 << 26;
 
-fn read_json(alloc: Global, bytes: &[u8]) -> Result<Value, DocumentFault>
-    ensures ok { IfOk result (λ v. IsUtf8 bytes.now × (read_text bytes.now ≡ Some (view v))) }
-    ensures err { result ≡ Err BadDocument → IsUtf8 bytes.now → read_text bytes.now ≡ None }
+fn read_json(alloc: Global, text: &str) -> Result<Value, DocumentFault>
+    ensures { ReadsBy view result (read_text text.now) }
 {
-    match Value::from_slice(alloc, bytes) {
+    match Value::from_str(alloc, text) {
         Ok(value) => Ok(value),
         Err(e) if e.is_memory() => Err(DocumentFault::OutOfMemory),
         Err(_) => Err(DocumentFault::BadDocument),
@@ -63,16 +65,25 @@ fn read_json(alloc: Global, bytes: &[u8]) -> Result<Value, DocumentFault>
 }
 
 fn read_parts(alloc: Global, value: &Value) -> Result<Parsed, DocumentFault>
-    ensures { ReadsBy doc_view result (only_if is_readable_document (any_document_of (view value.now))) }
+    ensures { ReadsBy doc_view result (any_document_of (view value.now)) }
 {
     let fields = two_fields(value, "columns", "steps");
     let (columns, steps) = fields.ok_or(DocumentFault::BadDocument)?;
     let columns = read_columns(alloc, items(columns).ok_or(DocumentFault::BadDocument)?)?;
     let steps = read_steps(alloc, items(steps).ok_or(DocumentFault::BadDocument)?)?;
-    if !are_unchunked(&steps) {
-        return Err(DocumentFault::BadDocument);
-    }
     Ok(Parsed { columns, steps })
+}
+
+/// The columns and steps that a text says: along the text where it says them in the usual order, else
+/// by way of one JSON value of all of it.
+fn read_any(alloc: Global, text: &str) -> Result<Parsed, DocumentFault>
+    ensures { ReadsBy doc_view result (option_and_then any_document_of (read_text text.now)) }
+{
+    if let Some(parsed) = read_in_order(alloc, text)? {
+        return Ok(parsed);
+    }
+    let value = read_json(alloc, text)?;
+    read_parts(alloc, &value)
 }
 
 /// The columns and steps that a text says: JSON in UTF-8, of fewer than 2^26 bytes, with exactly the
@@ -86,8 +97,14 @@ fn parse_document(alloc: Global, bytes: &[u8]) -> Result<Parsed, DocumentFault>
     if bytes.len() >= SIZE_LIMIT {
         return Err(DocumentFault::BadDocument);
     }
-    let value = read_json(alloc, bytes)?;
-    read_parts(alloc, &value)
+    let Ok(text) = str::from_utf8(bytes) else {
+        return Err(DocumentFault::BadDocument);
+    };
+    let parsed = read_any(alloc, text)?;
+    if !are_unchunked(&parsed.steps) {
+        return Err(DocumentFault::BadDocument);
+    }
+    Ok(parsed)
 }
 
 /// The document that some bytes say: JSON in UTF-8 (RFC 8259), of fewer than 2^26 bytes, with exactly

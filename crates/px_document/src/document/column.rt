@@ -1,16 +1,16 @@
 //! Reading columns.
 ghost use Rattle.std.specs.Prelude.{◌≡◌, ◌<◌, ◌^◌, IfOk, length, map, option_and_then, option_map, true};
 ghost use Rattle.serde_json.specs.View.{view};
-ghost use Rattle.px_column.specs.Prelude.{kind_of, slot_fits, slot_of, slot_of_ref};
-ghost use Rattle.px_document.specs.Document.{column_of, column_with, fitting_place, is_plain_kind, place_of, rows_under};
+ghost use Rattle.px_column.specs.Prelude.{kind_of, slot_fits, slot_of};
+ghost use Rattle.px_document.specs.Document.{column_of, column_with, fitting_place, place_of, rows_under};
 ghost use Rattle.px_document.specs.Form.{Reads, ReadsBy};
 ghost use Rattle.px_column.specs.Option.{each};
 
 use crate::document::fault::DocumentFault;
 use crate::document::fields::{items, read_text, three_fields};
-use crate::document::place::{is_plain, lend_place, read_place};
+use crate::document::place::read_place;
 use crate::document::type_name::read_type;
-use px_column::{Column, ColumnBuilder, DataType, Name, Value as Datum, ValueRef};
+use px_column::{Column, ColumnBuilder, DataType, Name, Value as Datum};
 use px_value::{lend, slot_fits};
 use serde_json::Value;
 use std::alloc::Global;
@@ -29,40 +29,6 @@ fn read_fitting(
         return Err(DocumentFault::BadDocument);
     }
     Ok(slot)
-}
-
-/// A place whose value fits the type, which JSON has as it is, lent.
-fn lend_fitting<'v>(
-    dtype: &DataType,
-    value: &'v Value,
-) -> Result<Option<ValueRef<'v>>, DocumentFault>
-    requires { is_plain_kind (kind_of dtype.now) ≡ true }
-    ensures place { ReadsBy slot_of_ref result (fitting_place (kind_of dtype.now) (view value.now)) }
-    ensures fits { IfOk result (λ s. slot_fits (kind_of dtype.now) (slot_of_ref s) ≡ true) }
-{
-    let slot = lend_place(dtype, value)?;
-    if !slot_fits(dtype, slot) {
-        return Err(DocumentFault::BadDocument);
-    }
-    Ok(slot)
-}
-
-/// The column of these places, each of which fits the type, which JSON has as it is.
-fn copy_fitting_rows(
-    alloc: Global,
-    name: Name,
-    dtype: &DataType,
-    values: &[Value],
-) -> Result<Column, DocumentFault>
-    requires plain { is_plain_kind (kind_of dtype.now) ≡ true }
-    requires short { length values.now < 2 ^ 32 }
-    ensures { Reads result (option_map (rows_under name (kind_of dtype.now)) (each (fitting_place (kind_of dtype.now)) (map view values.now))) }
-{
-    let mut rows = ColumnBuilder::new(alloc, name, dtype.try_clone(alloc)?, values.len() as u32)?;
-    for value in values {
-        rows.push_ref(lend_fitting(dtype, value)?)?;
-    }
-    Ok(rows.finish()?)
 }
 
 /// The column of these places, each of which fits the type.
@@ -94,9 +60,6 @@ fn read_rows(
 {
     if values.len() >= 1 << 32 {
         return Err(DocumentFault::BadDocument);
-    }
-    if is_plain(dtype) {
-        return copy_fitting_rows(alloc, name, dtype, values);
     }
     read_fitting_rows(alloc, name, dtype, values)
 }

@@ -1,17 +1,16 @@
 //! Reading the values of columns and lists.
-ghost use Rattle.std.specs.Prelude.{◌≡◌, map, option_map, option_and_then, true};
+ghost use Rattle.std.specs.Prelude.{◌≡◌, map, option_map, option_and_then};
 ghost use Rattle.serde_json.specs.Find.{as_number, as_str, as_integer};
 ghost use Rattle.serde_json.specs.View.{view};
-ghost use Rattle.px_column.specs.Prelude.{kind_of, datum_of, slot_of, slot_of_ref, slots_of};
-ghost use Rattle.px_document.specs.Document.{bytes_of_hex, is_plain_kind, short_list, place_of};
+ghost use Rattle.px_column.specs.Prelude.{kind_of, datum_of, slot_of, slots_of};
+ghost use Rattle.px_document.specs.Document.{bytes_of_hex, short_list, place_of};
 ghost use Rattle.px_document.specs.Form.{Reads, ReadsBy, items};
 ghost use Rattle.px_column.specs.Option.{each};
 
 use crate::document::fault::DocumentFault;
-use crate::document::fields::items;
+use crate::document::fields::{items, read_text};
 use crate::document::hexadecimal::read_hexadecimal;
-use px_column::{ByteString, DataType, Value as Datum, ValueRef, Values};
-use px_value::copy_slot;
+use px_column::{ByteString, DataType, Value as Datum, Values};
 use serde_json::Value;
 use std::alloc::Global;
 
@@ -41,40 +40,6 @@ fn short_list(places: Vec<Option<Datum>>) -> Result<Datum, DocumentFault>
     Ok(Datum::List(Values::from_vec(places)))
 }
 
-/// Whether JSON has the values of a type as they are: truths, integers and texts, or none at all.
-pub(crate) fn is_plain(dtype: &DataType) -> bool
-    ensures { result ≡ is_plain_kind (kind_of dtype.now) }
-{
-    !matches!(dtype, DataType::Binary | DataType::List(_))
-}
-
-/// A place of a type whose values JSON has as they are: a null, or a value of its kind, lent. Whether an
-/// integer is in the type's range is not told here.
-#[tactic(auto, using(crate::proofs::Readings::place_of_null))]
-pub(crate) fn lend_place<'v>(
-    dtype: &DataType,
-    value: &'v Value,
-) -> Result<Option<ValueRef<'v>>, DocumentFault>
-    requires { is_plain_kind (kind_of dtype.now) ≡ true }
-    ensures { ReadsBy slot_of_ref result (place_of (kind_of dtype.now) (view value.now)) }
-{
-    if value.is_null() {
-        return Ok(None);
-    }
-    match dtype {
-        DataType::Boolean => {
-            let truth = value.as_bool().ok_or(DocumentFault::BadDocument)?;
-            Ok(Some(ValueRef::Boolean(truth)))
-        }
-        DataType::String => {
-            let text = value.as_str().ok_or(DocumentFault::BadDocument)?;
-            Ok(Some(ValueRef::Text(text)))
-        }
-        DataType::Binary | DataType::List(_) | DataType::Null => Err(DocumentFault::BadDocument),
-        _ => Ok(Some(ValueRef::Int(read_integer(value)?))),
-    }
-}
-
 /// A place of a type: a null, or a value of its kind. Whether an integer is in the type's range is
 /// not told here.
 #[cycle(place)]
@@ -90,9 +55,15 @@ pub(crate) fn read_place(
         return Ok(None);
     }
     match dtype {
+        DataType::Boolean => {
+            let truth = value.as_bool().ok_or(DocumentFault::BadDocument)?;
+            Ok(Some(Datum::Boolean(truth)))
+        }
+        DataType::String => Ok(Some(Datum::Text(read_text(alloc, value)?))),
         DataType::Binary => Ok(Some(Datum::Bytes(read_bytes(alloc, value)?))),
+        DataType::Null => Err(DocumentFault::BadDocument),
         DataType::List(of) => Ok(Some(read_list(alloc, of, value)?)),
-        _ => Ok(copy_slot(alloc, lend_place(dtype, value)?)?),
+        _ => Ok(Some(Datum::Int(read_integer(value)?))),
     }
 }
 

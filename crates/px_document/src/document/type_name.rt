@@ -71,9 +71,16 @@ fn type_within(alloc: Global, depth: u32, name: &[u8]) -> Result<DataType, Docum
 
 /// The type of a name: `Boolean`, `Int8`, `Int16`, `Int32`, `Int64`, `UInt8`, `UInt16`, `UInt32`,
 /// `UInt64`, `String`, `Binary`, `Null`, or `List(` type `)` with at most 16 lists around one another.
+pub(crate) fn read_type_name(alloc: Global, name: &str) -> Result<DataType, DocumentFault>
+    ensures { ReadsBy kind_of result (kind_named name.now) }
+{
+    type_within(alloc, DEPTH_LIMIT, name.as_bytes())
+}
+
+/// The type whose name a value is.
 pub(crate) fn read_type(alloc: Global, value: &Value) -> Result<DataType, DocumentFault>
     ensures { ReadsBy kind_of result (option_and_then kind_named (as_str (view value.now))) }
 {
     let name = value.as_str().ok_or(DocumentFault::BadDocument)?;
-    type_within(alloc, DEPTH_LIMIT, name.as_bytes())
+    read_type_name(alloc, name)
 }

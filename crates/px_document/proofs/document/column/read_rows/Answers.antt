@@ -11,12 +11,6 @@ returns-then-values c =
     let ds = map view c.args.values.now in
     too_many_rows c.args.name (kind_of c.args.dtype.now) ds (omega (arith, length-map c.args.values.now view, c.if-values.true))
 
-pub returns-then-is_plain : goal.returns-then-is_plain
-returns-then-is_plain c =
-    let ds = map view c.args.values.now in
-    let short : length ds < 2 ^ 32 = omega (arith, length-map c.args.values.now view, c.if-values.false) in
-    subst (λ (e : Option Series). Reads c.copy_fitting_rows.result e) (sym (fitting_rows c.args.name (kind_of c.args.dtype.now) ds short)) c.copy_fitting_rows.ensures
-
 pub returns : goal.returns
 returns c =
     let ds = map view c.args.values.now in
