@@ -1,4 +1,4 @@
-"""Documents of Int64 columns, and the wall seconds of whole runs over them."""
+"""Documents of Int64 and String columns, and the wall seconds of whole runs over them."""
 
 import json
 import subprocess
@@ -6,9 +6,13 @@ import tempfile
 import time
 
 
+def type_of(values):
+    return "String" if values and isinstance(values[0], str) else "Int64"
+
+
 def write(file, columns, steps):
     """Writes the document of these columns and steps."""
-    listed = [{"name": it, "type": "Int64", "values": columns[it]} for it in columns]
+    listed = [{"name": it, "type": type_of(columns[it]), "values": columns[it]} for it in columns]
     json.dump({"columns": listed, "steps": steps}, file, separators=(",", ":"))
     file.flush()
 

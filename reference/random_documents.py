@@ -33,6 +33,7 @@ ARITHMETIC = ["Plus", "Minus", "Multiply", "Divide", "FloorDivide", "Modulus"]
 BITWISE = ["And", "Or", "Xor"]
 BYTE_LIMIT = 1400
 MISTAKE_SHARE = 0.38
+SHUFFLED_SHARE = 0.3
 GROUP_MISTAKES = ["AggAboveImplode", "AggLiteral", "AggScalar", "ScalarOnGroups",
                   "WindowOnGroups"]
 FRAME_MISTAKES = ["NoKey", "WindowLength"]
@@ -599,9 +600,21 @@ class DocumentMaker:
         while True:
             plan = self.random.choice(MISTAKES) if self.chance(MISTAKE_SHARE) else None
             self.mistake = plan
-            text = json.dumps(self.document(), ensure_ascii=self.truth(), separators=(",", ":"))
+            document = self.document()
+            if self.chance(SHUFFLED_SHARE):
+                document = self.shuffled(document)
+            text = json.dumps(document, ensure_ascii=self.truth(), separators=(",", ":"))
             if len(text) < BYTE_LIMIT:
                 return self.corrupted(text) if plan == "BadDocument" else text
+
+    def shuffled(self, form: Any) -> Any:
+        """The same with the members of its objects in another order."""
+        if isinstance(form, list):
+            return [self.shuffled(item) for item in form]
+        if isinstance(form, dict):
+            members = self.random.sample(list(form.items()), len(form))
+            return {key: self.shuffled(value) for key, value in members}
+        return form
 
     def corrupted(self, text: str) -> str:
         """A text that is no document."""
