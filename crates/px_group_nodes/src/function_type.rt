@@ -15,25 +15,27 @@ use px_tree::FunctionExpr;
 use std::alloc::Global;
 
 /// The type of the values in lists of a type, `Types` where it is no type of lists.
-fn element_type(dtype: DataType) -> Px<DataType>
-    ensures { AnswersBy kind_of result (element_kind (kind_of dtype)) }
+fn element_type(alloc: Global, dtype: &DataType) -> Px<DataType>
+    ensures { AnswersBy kind_of result (element_kind (kind_of dtype.now)) }
 {
     match dtype {
-        DataType::List(of) => Ok(Box::into_inner(of)),
+        DataType::List(of) => of.try_clone(alloc),
         _ => Err(PxError::InvalidOperation(InvalidWhy::Types)),
     }
 }
 
 /// The type of a function of one input.
-fn type_of_one(function: FunctionExpr, dtype: DataType) -> Px<DataType>
-    ensures { AnswersBy kind_of result (function_kind function (kind_of dtype ∷ [])) }
+fn type_of_one(alloc: Global, function: FunctionExpr, dtype: &DataType) -> Px<DataType>
+    ensures { AnswersBy kind_of result (function_kind function (kind_of dtype.now ∷ [])) }
 {
     match function {
         FunctionExpr::IsNull | FunctionExpr::IsNotNull => Ok(DataType::Boolean),
-        FunctionExpr::Not => type_where(is_boolean(&dtype), DataType::Boolean),
-        FunctionExpr::Reverse | FunctionExpr::Shift(_) | FunctionExpr::DropNulls => Ok(dtype),
+        FunctionExpr::Not => type_where(is_boolean(dtype), DataType::Boolean),
+        FunctionExpr::Reverse | FunctionExpr::Shift(_) | FunctionExpr::DropNulls => {
+            dtype.try_clone(alloc)
+        }
         FunctionExpr::NullCount => Ok(DataType::UInt32),
-        FunctionExpr::Explode => element_type(dtype),
+        FunctionExpr::Explode => element_type(alloc, dtype),
         FunctionExpr::IsBetween { .. } | FunctionExpr::IsIn => {
             Err(PxError::InvalidOperation(InvalidWhy::Types))
         }
@@ -98,7 +100,7 @@ pub(crate) fn function_type(
 {
     match inputs {
         [] => Err(PxError::InvalidOperation(InvalidWhy::Types)),
-        [input] => type_of_one(function, input.cell_type().try_clone(alloc)?),
+        [input] => type_of_one(alloc, function, input.cell_type()),
         [input, among] => type_of_two(function, input.cell_type(), among.cell_type()),
         [input, low, high] => type_of_three(
             function,

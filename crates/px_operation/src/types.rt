@@ -12,6 +12,7 @@ ghost use Rattle.px_value.specs.declared.error.InvalidWhy.TheVariants.{ListKey};
 
 use px_value::{DataType, GroupByMethod, InvalidWhy, Operator, Px, PxError};
 use std::alloc::Global;
+use std::rc::Rc;
 
 /// Whether it is a type of integers.
 pub fn is_integer(dtype: &DataType) -> bool
@@ -207,6 +208,6 @@ pub fn reduced_type(alloc: Global, method: GroupByMethod, dtype: DataType) -> Px
         GroupByMethod::First | GroupByMethod::Last => Ok(dtype),
         GroupByMethod::NUnique => unless_list(is_list, DataType::UInt32),
         GroupByMethod::Count { .. } => Ok(DataType::UInt32),
-        GroupByMethod::Implode => Ok(DataType::List(Box::new(alloc, dtype)?)),
+        GroupByMethod::Implode => Ok(DataType::List(Rc::new(alloc, dtype)?)),
     }
 }

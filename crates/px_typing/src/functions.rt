@@ -11,6 +11,7 @@ use crate::typed::{
 use crate::types::type_of_one;
 use px_column::{DataType, InvalidWhy, Px, PxError, same_type, type_where};
 use px_tree::{Context, FunctionExpr};
+use std::alloc::Global;
 
 /// Whether a function changes how many rows there are, or their order.
 fn takes_rows(function: FunctionExpr) -> bool
@@ -43,7 +44,12 @@ fn is_unit_of_one(function: FunctionExpr, is_unit: bool) -> bool
     }
 }
 
-pub(crate) fn infer_of_one(function: FunctionExpr, input: Typed, context: Context) -> Px<Typed>
+pub(crate) fn infer_of_one(
+    alloc: Global,
+    function: FunctionExpr,
+    input: Typed,
+    context: Context,
+) -> Px<Typed>
     ensures { AnswersBy facts_of result (one_input_facts context function (facts_of input)) }
 {
     if context.is_on_groups() && is_null_count(function) && input.has_implode {
@@ -53,7 +59,7 @@ pub(crate) fn infer_of_one(function: FunctionExpr, input: Typed, context: Contex
         return Err(PxError::InvalidOperation(InvalidWhy::ScalarOnGroups));
     }
     Ok(Typed {
-        dtype: type_of_one(function, input.dtype)?,
+        dtype: type_of_one(alloc, function, input.dtype)?,
         is_unit: is_unit_of_one(function, input.is_unit),
         is_literal: input.is_literal,
         has_implode: input.has_implode,
@@ -111,6 +117,7 @@ fn only_input(inputs: Vec<Typed>) -> Px<Typed>
 }
 
 pub(crate) fn infer_function(
+    alloc: Global,
     function: FunctionExpr,
     inputs: Vec<Typed>,
     context: Context,
@@ -120,6 +127,6 @@ pub(crate) fn infer_function(
     match function {
         FunctionExpr::IsBetween { .. } => infer_compared(3, all_units(&inputs), &inputs),
         FunctionExpr::IsIn => infer_compared(2, is_first_unit(&inputs), &inputs),
-        _ => infer_of_one(function, only_input(inputs)?, context),
+        _ => infer_of_one(alloc, function, only_input(inputs)?, context),
     }
 }

@@ -77,11 +77,11 @@ fn infer_expr(alloc: Global, expr: &Expr, scope: &Schema, context: Context) -> P
         }
         Expr::Function { input, function } => {
             let inputs = infer_all(alloc, input, scope, context)?;
-            infer_function(*function, inputs, context)
+            infer_function(alloc, *function, inputs, context)
         }
         Expr::Explode(input) => {
             let input = infer_expr(alloc, input, scope, context)?;
-            infer_of_one(FunctionExpr::Explode, input, context)
+            infer_of_one(alloc, FunctionExpr::Explode, input, context)
         }
         Expr::Filter { input, by } => {
             let input = infer_expr(alloc, input, scope, context)?;

@@ -6,6 +6,7 @@ ghost use Rattle.px_value.specs.KindView.{kind_of};
 
 use crate::error::Px;
 use std::alloc::Global;
+use std::rc::Rc;
 
 /// The type of a column's values (polars `DataType`, without its floats and its logical types).
 #[derive(Drop)]
@@ -34,8 +35,8 @@ pub enum DataType {
     Binary,
     /// Nulls alone.
     Null,
-    /// Lists of values of this type.
-    List(Box<DataType>),
+    /// Lists of values of this type, which copies share.
+    List(Rc<DataType>),
 }
 
 impl DataType {
@@ -46,8 +47,8 @@ impl DataType {
         matches!(self, DataType::List(_))
     }
 
-    /// An equal type.
-    pub fn try_clone(&self, alloc: Global) -> Px<DataType>
+    /// An equal type, which shares the type that lists are of and takes no allocation.
+    pub fn try_clone(&self, _alloc: Global) -> Px<DataType>
         ensures { AnswersBy kind_of result (Ok (kind_of self.now)) }
     {
         match self {
@@ -63,7 +64,7 @@ impl DataType {
             DataType::String => Ok(DataType::String),
             DataType::Binary => Ok(DataType::Binary),
             DataType::Null => Ok(DataType::Null),
-            DataType::List(of) => Ok(DataType::List(Box::new(alloc, of.try_clone(alloc)?)?)),
+            DataType::List(of) => Ok(DataType::List(of.clone()?)),
         }
     }
 }

@@ -10,6 +10,7 @@ use crate::document::fault::DocumentFault;
 use px_column::DataType;
 use serde_json::Value;
 use std::alloc::Global;
+use std::rc::Rc;
 
 /// At most this many `List(` stand around one another.
 const DEPTH_LIMIT: u32 = 16;
@@ -66,7 +67,7 @@ fn type_within(alloc: Global, depth: u32, name: &[u8]) -> Result<DataType, Docum
     }
     let inside = in_list(name).ok_or(DocumentFault::BadDocument)?;
     let items = type_within(alloc, depth - 1, inside)?;
-    Ok(DataType::List(Box::new(alloc, items)?))
+    Ok(DataType::List(Rc::new(alloc, items)?))
 }
 
 /// The type of a name: `Boolean`, `Int8`, `Int16`, `Int32`, `Int64`, `UInt8`, `UInt16`, `UInt32`,
