@@ -1,5 +1,6 @@
 pub mod Option
 pub mod Result
+pub mod Text
 pub mod Datum
 pub mod DatumCode
 pub mod Equality

@@ -3,17 +3,31 @@ ghost use Rattle.std.specs.Prelude.{◌≡◌};
 ghost use Rattle.px_value.specs.Answer.{Answers};
 
 use crate::error::Px;
-use smallvec::SmallVec;
+use arrayvec::ArrayString;
 use std::alloc::Global;
+use std::fmt;
 use std::hash::{Hash, Hasher};
 use std::marker::Model;
-use std::{fmt, str};
+use std::rc::RcStr;
 
-/// The name of a column, or another text (polars `PlSmallStr`); seen as its UTF-8 bytes, of which up to
-/// 16 take no allocation.
+/// A text of up to 16 bytes in place, or a longer one that copies share.
 #[derive(Drop)]
+enum Text {
+    InPlace(ArrayString<16>),
+    Shared(RcStr),
+}
+
+/// The name of a column, or another text (polars `PlSmallStr`); seen as its UTF-8 bytes. Up to 16 bytes
+/// stand in place and take no allocation; copies of a longer text share its bytes.
 pub struct Name {
-    bytes: SmallVec<u8, 16>,
+    text: Text,
+}
+
+/// One call where a name is let go, so that proofs see no more of what is inside.
+impl Drop for Name {
+    fn drop(self) {
+        let Name { text: _text } = self;
+    }
 }
 
 impl Model for Name {
@@ -24,36 +38,47 @@ impl Model for Name {
 
     ghost coded = { coded_list coded_ℕ };
 
-    ghost view = { λ n. n.bytes.items };
+    ghost use Rattle.px_value.specs.Text.{text_bytes};
 
-    ghost invariant = { λ n. IsUtf8 n.bytes.items };
+    ghost view = { λ n. text_bytes n.text };
+
+    ghost invariant = { λ n. IsUtf8 (text_bytes n.text) };
 }
 
 impl Name {
     ghost use Rattle.std.specs.Prelude.{Ok};
 
-    /// The text, copied.
+    /// The text, copied. One of at most 16 bytes takes no allocation.
     pub fn new(alloc: Global, text: &str) -> Px<Name>
         ensures { Answers result (Ok text.now) }
     {
-        Ok(Name {
-            bytes: SmallVec::from_slice(alloc, text.as_bytes())?,
-        })
+        let text = match ArrayString::from(text) {
+            Ok(text) => Text::InPlace(text),
+            Err(_) => Text::Shared(RcStr::from_str(alloc, text)?),
+        };
+        Ok(Name { text })
     }
 
     /// The text, lent.
+    #[inline]
     pub fn as_str(&self) -> &str
         ensures { result.now ≡ self.now }
     {
-        // The bytes are a text's.
-        unsafe { str::from_utf8_unchecked(self.bytes.as_slice()) }
+        match &self.text {
+            Text::InPlace(text) => text.as_str(),
+            Text::Shared(text) => text.as_str(),
+        }
     }
 
-    /// An equal name.
-    pub fn try_clone(&self, alloc: Global) -> Px<Name>
+    /// An equal name, which shares a text of more than 16 bytes and takes no allocation.
+    pub fn try_clone(&self, _alloc: Global) -> Px<Name>
         ensures { Answers result (Ok self.now) }
     {
-        Name::new(alloc, self.as_str())
+        let text = match &self.text {
+            Text::InPlace(text) => Text::InPlace(*text),
+            Text::Shared(text) => Text::Shared(text.clone()?),
+        };
+        Ok(Name { text })
     }
 }
 
