@@ -5,8 +5,8 @@ use px_trial_texts::is_text;
 use std::alloc::Global;
 use std::test::Fail;
 
-fn copy_of_name(alloc: Global) -> Px<Name> {
-    let name = Name::new(alloc, "ab")?;
+fn copy_of_name(alloc: Global, text: &str) -> Px<Name> {
+    let name = Name::new(alloc, text)?;
     name.try_clone(alloc)
 }
 
@@ -18,7 +18,13 @@ fn are_bytes_kept(alloc: Global, bytes: &[u8]) -> Px<bool> {
 fn names_and_bytes_are_copied(rt: HostRuntime) -> Result<(), Fail> {
     let alloc = rt.alloc();
     assert!(rt; is_text(Name::new(alloc, "ab"), "ab")?);
-    assert!(rt; is_text(copy_of_name(alloc), "ab")?);
+    assert!(rt; is_text(copy_of_name(alloc, "sixteen bytes in"), "sixteen bytes in")?);
+    assert!(rt;
+        is_text(
+            copy_of_name(alloc, "seventeen bytes -"),
+            "seventeen bytes -"
+        )?
+    );
     assert!(rt; are_bytes_kept(alloc, &[104, 105])?);
     Ok(())
 }
