@@ -16,7 +16,7 @@ module _ {X : Type 0} where
   all_at test (y ∷ ys) zero x h e = let same : y ≡ x = cc in ap test (sym same) ∙ (both (test y) (list_all test ys) h).0
   all_at test (y ∷ ys) (suc i) x h e = all_at test ys i x (both (test y) (list_all test ys) h).1 e
 
-  take_suc : (xs : List X) (i : ℕ) (x : X) → slice_get xs i ≡ Some x → take (suc i) xs ≡ take i xs ++ x ∷ []
+  pub take_suc : (xs : List X) (i : ℕ) (x : X) → slice_get xs i ≡ Some x → take (suc i) xs ≡ take i xs ++ x ∷ []
   take_suc [] i x e = cc
   take_suc (y ∷ ys) zero x e = let same : y ≡ x = cc in ap (λ z. z ∷ []) same
   take_suc (y ∷ ys) (suc i) x e = ap (λ zs. y ∷ zs) (take_suc ys i x e)

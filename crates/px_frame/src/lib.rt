@@ -2,6 +2,7 @@
 #![tactic(auto)]
 
 mod aggregate;
+mod blocks;
 mod cell;
 mod distinct;
 mod frame;

@@ -1,5 +1,5 @@
 //! A column reduced at the rows of each group.
-ghost use Rattle.std.specs.Prelude.{◌≡◌, ℕ, ◌^◌, Bool, Ok, length, map, sum, true};
+ghost use Rattle.std.specs.Prelude.{◌≡◌, ℕ, ◌^◌, [], Bool, Ok, length, map, sum, true};
 ghost use Rattle.px_column.specs.Prelude.{Answers, AnswersBy, kind_of, Series, slot_of};
 ghost use Rattle.px_column.specs.Reduce.{is_taken};
 ghost use Rattle.px_column.specs.Reduction.{reduced_kind};
@@ -9,12 +9,16 @@ ghost use Rattle.px_frame.specs.GroupsView.{groups_of, lent_group, with_rolling}
 ghost use Rattle.px_frame.specs.declared.groups.GroupsType.{GroupsType};
 ghost use Rattle.px_frame.specs.Reduced.{listed_by, reduced_at, reduced_by};
 
+use crate::blocks::{Begun, absorb_blocks};
 use crate::groups::{GroupPositions, GroupsIndicator};
 use px_column::{
     Column, ColumnBuilder, ComputeWhy, DataType, GroupByMethod, Px, PxError, Value, reduced_type,
 };
 use px_operation::{ImplodeReduce, Reduce};
 use std::alloc::Global;
+
+/// Groups of more rows than this on average are reduced block by block.
+const LONG: u32 = 64;
 
 /// The reduction of the values at a group's rows, which a state absorbs one by one.
 fn reduce_group<R: Reduce + Drop>(
@@ -27,14 +31,55 @@ fn reduce_group<R: Reduce + Drop>(
     requires below { are_below (length values.now.slots) (lent_group group).rows ≡ true }
     ensures { AnswersBy slot_of result (Ok (reduced_at R.method values.now (lent_group group.entry))) }
 {
-    let mut state = R::start(alloc, values.dtype())?;
-    for index in 0..group.len() {
-        state.absorb(values.get(group.row(index)))?;
-    }
-    state.finish()
+    Begun::<R>::new(alloc, values, group)?.finish(values, group)
 }
 
-/// The reduction of the values at each group's rows, which is of the type `dtype`.
+/// The reduction of the values at each group's rows, which is of the type of the rows to be built, group
+/// by group.
+fn reduce_each<R: Reduce + Drop>(
+    alloc: Global,
+    mut rows: ColumnBuilder,
+    values: &Column,
+    groups: &GroupPositions,
+) -> Px<Column>
+    requires empty { rows ≡ record { name = values.now.name; kind = rows.kind; slots = [] } }
+    requires kind { reduced_kind R.method values.now.kind ≡ Ok rows.kind }
+    requires height { length values.now.slots ≡ groups.now.height }
+    ensures { Answers result (reduced_by R.method values.now groups.now) }
+{
+    // Each row fits the type, and so does what they become.
+    let _ = values.rows();
+    for index in 0..groups.len() {
+        rows.push(reduce_group::<R>(alloc, values, groups.group(index))?)?;
+    }
+    rows.finish()
+}
+
+/// The same, block by block.
+fn reduce_in_blocks<R: Reduce + Drop>(
+    alloc: Global,
+    mut rows: ColumnBuilder,
+    values: &Column,
+    groups: &GroupPositions,
+) -> Px<Column>
+    requires empty { rows ≡ record { name = values.now.name; kind = rows.kind; slots = [] } }
+    requires kind { reduced_kind R.method values.now.kind ≡ Ok rows.kind }
+    requires height { length values.now.slots ≡ groups.now.height }
+    ensures { Answers result (reduced_by R.method values.now groups.now) }
+{
+    // Each row fits the type, and so does what they become.
+    let _ = values.rows();
+    let all = absorb_blocks::<R>(alloc, values, groups)?;
+    let mut index = 0;
+    for begun in all {
+        rows.push(begun.finish(values, groups.group(index))?)?;
+        index += 1;
+    }
+    rows.finish()
+}
+
+/// The reduction of the values at each group's rows, which is of the type `dtype`: block by block where
+/// groups have many rows each.
 fn reduce_groups_as<R: Reduce + Drop>(
     alloc: Global,
     dtype: DataType,
@@ -45,14 +90,13 @@ fn reduce_groups_as<R: Reduce + Drop>(
     requires height { length values.now.slots ≡ groups.now.height }
     ensures { Answers result (reduced_by R.method values.now groups.now) }
 {
-    // Each row fits the type, and so does what they become.
-    let _ = values.rows();
     let name = values.name().try_clone(alloc)?;
-    let mut rows = ColumnBuilder::new(alloc, name, dtype, groups.len())?;
-    for index in 0..groups.len() {
-        rows.push(reduce_group::<R>(alloc, values, groups.group(index))?)?;
+    let rows = ColumnBuilder::new(alloc, name, dtype, groups.len())?;
+    if groups.len() < groups.height() / LONG {
+        reduce_in_blocks::<R>(alloc, rows, values, groups)
+    } else {
+        reduce_each::<R>(alloc, rows, values, groups)
     }
-    rows.finish()
 }
 
 /// The reduction of the values at each group's rows, or the refusal of its type.

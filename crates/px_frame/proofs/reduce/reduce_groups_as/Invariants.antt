@@ -1,7 +1,0 @@
-use Rattle.std.proofs.Common.{◌≡◌, map, take}
-use Rattle.px_column.specs.Prelude.{kind_of}
-use Rattle.px_frame.specs.Reduced.{reduced_at}
-use Rattle.px_frame.proofs.reduce.reduce_groups_as.Given as goal
-
-abbrev pub invariant-loop-index : goal.invariant-loop-index
-invariant-loop-index g l = l.rows ≡ record { name = l.values.name; kind = kind_of l.fn.dtype; slots = map (reduced_at g.R.Reduce.method l.values) (take l.index l.groups.groups) }
