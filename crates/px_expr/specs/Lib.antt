@@ -1,3 +1,2 @@
-pub mod Depth
 pub mod Plan
 pub use Rattle.px_physical.specs.NodeView

@@ -1,5 +1,5 @@
 -- What the planner makes of an expression.
-use Rattle.std.specs.Prelude.{◌≡◌, ℕ, ◌+◌, ◌<◌, ◌||◌, List, [], ◌∷◌, Option, Some, None, Result, Ok, length, map, fold, take}
+use Rattle.std.specs.Prelude.{◌≡◌, ℕ, ◌+◌, ◌<◌, List, [], ◌∷◌, Option, Some, None, Result, Ok, length, map, fold, take}
 use Rattle.px_column.specs.Prelude.{Refuses}
 use Rattle.px_column.specs.Result.{◌>>=◌}
 use Rattle.px_value.specs.declared.error.PxError.{PxError}
@@ -10,13 +10,12 @@ use Rattle.px_tree.specs.Nodes.{leaf_names}
 use Rattle.px_tree.specs.Tree.{Tree, Trees, Order, no_trees, one_tree, no_order, ordered}
 use Rattle.px_tree.specs.Typing.{Scope, type_of}
 use Rattle.px_tree.specs.declared.context.Context.{Context}
-use Rattle.px_tree.specs.Shape.{has_window}
-use Rattle.px_expr.specs.Depth.{is_too_deep}
+use Rattle.px_conversion.specs.Noted.{noted}
 use Rattle.px_answers.specs.Parts.{under}
 use Rattle.px_answers.specs.Planned.{Planned}
 use Rattle.px_physical.specs.NodeView.{plan_of}
 use Rattle.px_expr.specs.declared.planner.nodes.PlannedFunction.{PlannedFunction}
-use Rattle.px_expr.specs.declared.conversion.ExpressionConversionState.{ExpressionConversionState}
+use Rattle.px_conversion.specs.declared.conversion.ExpressionConversionState.{ExpressionConversionState}
 
 -- an expression whose column nodes were all planned over one schema
 abbrev pub planned_over : Scope → Tree → Planned
@@ -39,10 +38,6 @@ function_of p = record (plan_of p.node) { tree = under p.out_name (plan_of p.nod
 -- the node of an expression, under a name if any, where it is not refused over the schema in its place
 abbrev pub plan_in : Option (List ℕ) → Tree → Scope → Context → Result Planned PxError
 plan_in name e scope place = type_of e scope place >>= λ k. Ok (planned_over scope (under name e))
-
--- what is noted of an expression that was planned: a window in it, and too great a depth
-abbrev pub noted : Tree → ExpressionConversionState → ExpressionConversionState
-noted e s = record s { has_windows = s.has_windows || has_window e; too_deep = s.too_deep || is_too_deep s.depth_limit e }
 
 -- a node that an arena has
 abbrev pub IsPlannable : List Tree → NamedNode → Type 0

@@ -7,12 +7,12 @@ ghost use Rattle.px_tree.specs.Typing.{type_of};
 ghost use Rattle.px_tree.specs.View.{tree, trees, agg_tree, mapping_of, order_tree};
 ghost use Rattle.px_answers.specs.Parts.{under};
 ghost use Rattle.px_physical.specs.NodeView.{order_of, plan_of};
-ghost use Rattle.px_expr.specs.Plan.{function_of, plan_in, plans_in, planned_over, all_planned_over, order_planned_over, noted, all_noted, IsPlannable, NotesFront};
+ghost use Rattle.px_expr.specs.Plan.{function_of, plan_in, plans_in, planned_over, all_planned_over, order_planned_over, all_noted, IsPlannable, NotesFront};
+ghost use Rattle.px_conversion.specs.Noted.{noted};
 
 mod apply;
 mod nodes;
 
-use crate::conversion::ExpressionConversionState;
 use apply::plan_apply;
 use nodes::{
     PlannedFunction, plan_aggregation, plan_alias, plan_binary, plan_cast, plan_column,
@@ -20,6 +20,7 @@ use nodes::{
     plan_window,
 };
 use px_column::{DataType, GroupByMethod, Name, Px, SortOptions};
+use px_conversion::ExpressionConversionState;
 use px_frame::SchemaRef;
 use px_physical::{CountExpr, PhysExpr};
 use px_plan::{

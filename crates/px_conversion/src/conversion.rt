@@ -1,12 +1,12 @@
 //! What planning keeps beside the nodes.
 ghost use Rattle.std.specs.Prelude.{◌≡◌, false, option_map};
 ghost use Rattle.px_tree.specs.View.{tree};
-ghost use Rattle.px_expr.specs.Depth.{depth_limit_of, written_depth_limit};
-ghost use Rattle.px_expr.specs.Plan.{noted};
+ghost use Rattle.px_conversion.specs.Depth.{depth_limit_of, written_depth_limit};
+ghost use Rattle.px_conversion.specs.Noted.{noted};
 
 use crate::depth::is_too_deep;
 use px_column::{ComputeWhy, Px, PxError};
-use px_plan::{Expr, has_window};
+use px_tree::{Expr, has_window};
 use std::default::Default;
 
 /// What is noted while expressions are planned (polars `ExpressionConversionState`).
@@ -34,8 +34,8 @@ impl ExpressionConversionState {
         }
     }
 
-    // What is noted once this expression is planned too.
-    pub(crate) fn noting(self, expr: &Expr) -> ExpressionConversionState
+    /// What is noted once this expression is planned too.
+    pub fn noting(self, expr: &Expr) -> ExpressionConversionState
         ensures { result ≡ noted (tree expr.now) self }
     {
         ExpressionConversionState {

@@ -1,10 +1,10 @@
 //! How deep expressions are.
 ghost use Rattle.std.specs.Prelude.{◌≡◌, nat_le};
 ghost use Rattle.px_tree.specs.View.{tree, trees, agg_tree, order_tree};
-ghost use Rattle.px_expr.specs.Depth.{depth_of, all_depth_of, order_depth_of, is_too_deep};
+ghost use Rattle.px_conversion.specs.Depth.{depth_of, all_depth_of, order_depth_of, is_too_deep};
 
 use px_column::SortOptions;
-use px_plan::{AggExpr, Expr, Exprs};
+use px_tree::{AggExpr, Expr, Exprs};
 use std::rc::Rc;
 
 /// Whether an expression is as deep as a limit: a path to a leaf has at least so many nodes. 0 is no

@@ -1,8 +1,8 @@
 use Rattle.std.proofs.Common.{◌∙◌, ap, sym}
 use Rattle.std.specs.Prelude.{Ok}
 use Rattle.std.specs.Str.Parse.{without_leading_plus}
-use Rattle.px_expr.proofs.Numerals.{numeral_limits, no_numeral_limits, kept_number}
-use Rattle.px_expr.proofs.conversion.written_depth_limit.Goals as goal
+use Rattle.px_conversion.proofs.Numerals.{numeral_limits, no_numeral_limits, kept_number}
+use Rattle.px_conversion.proofs.conversion.written_depth_limit.Goals as goal
 
 pub returns-in-Ok : goal.returns-in-Ok
 returns-in-Ok c =

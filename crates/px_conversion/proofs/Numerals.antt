@@ -9,7 +9,7 @@ use Rattle.std.specs.Str.Parse.{IsNumeral, digits_value}
 use Rattle.px_column.specs.Cast.{natural_of}
 use Rattle.px_value.specs.declared.error.PxError.TheVariants.{ComputeError}
 use Rattle.px_value.specs.declared.error.ComputeWhy.TheVariants.{DepthText}
-use Rattle.px_expr.specs.Depth.{numbered_depth_limit}
+use Rattle.px_conversion.specs.Depth.{numbered_depth_limit}
 
 own : IsNumeralModel (λ ds. all_ascii_digits ds ≡ true) (digits_value 10)
 own = numerals_by_value (λ ds. all_ascii_digits ds ≡ true) tells_all_ascii_digits
