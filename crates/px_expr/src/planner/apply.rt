@@ -28,8 +28,8 @@ pub(crate) fn plan_apply(
 {
     let returns_scalar = is_scalar_call(function, &inputs);
     let output_field = no_field(alloc)?;
-    let input_schema = schema.clone()?;
     let expr = expr.try_clone(alloc)?;
+    let input_schema = schema.clone()?;
     Ok(PhysExpr::Apply(ApplyExpr::new(
         inputs,
         function,

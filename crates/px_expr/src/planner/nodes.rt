@@ -22,9 +22,9 @@ use std::alloc::Global;
 pub(crate) fn plan_column(alloc: Global, name: &Name, schema: &SchemaRef) -> Px<PhysExpr>
     ensures { AnswersBy plan_of result (Ok (planned_over schema.now.value (column name.now))) }
 {
-    let schema = schema.clone()?;
     let read = name.try_clone(alloc)?;
     let name = name.try_clone(alloc)?;
+    let schema = schema.clone()?;
     Ok(PhysExpr::Column(ColumnExpr::new(name, Expr::Column(read), schema)))
 }
 
