@@ -6,7 +6,7 @@ ghost use Rattle.px_text.specs.Text.{names_line, row_line, rows_text, text_of, t
 
 use crate::data_type::push_type;
 use crate::json::{push_comma, push_quoted};
-use crate::value::push_slot;
+use crate::value::push_row_value;
 use px_column::{ByteString, Column, Px};
 use px_frame::DataFrame;
 use std::alloc::{AllocError, Global};
@@ -49,7 +49,7 @@ fn push_row(out: &mut Vec<u8>, columns: &[Column], row: u32) -> Result<(), Alloc
     out.push(b'[')?;
     for (i, column) in columns.iter().enumerate() {
         push_comma(out, i)?;
-        push_slot(out, column.get(row))?;
+        push_row_value(out, column.get(row))?;
     }
     push_line_end(out)
 }

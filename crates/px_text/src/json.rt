@@ -95,6 +95,7 @@ pub(crate) fn push_hexadecimal(out: &mut Vec<u8>, bytes: &[u8]) -> Result<(), Al
 }
 
 /// Appends a comma, unless the item that follows is the first.
+#[inline(always)]
 pub(crate) fn push_comma(out: &mut Vec<u8>, index: usize) -> Result<(), AllocError>
     ensures { OnOk result (out.new.items ≡ out.old.items ++ comma_before index) }
 {

@@ -1,6 +1,6 @@
 //! The text of values.
-ghost use Rattle.std.specs.Prelude.{◌≡◌, ◌++◌, OnOk};
-ghost use Rattle.std.specs.Fmt.{signed_decimal};
+ghost use Rattle.std.specs.Prelude.{◌≡◌, ◌<◌, ◌++◌, OnOk};
+ghost use Rattle.std.specs.Fmt.{decimal, signed_decimal};
 ghost use Rattle.px_column.specs.Prelude.{slots, datum_of_ref, slot_of_ref};
 ghost use Rattle.px_text.specs.Text.{array, datum_text, item_texts, slot_text};
 
@@ -9,11 +9,35 @@ use itoa::Buffer;
 use px_column::{ValueRef, Values};
 use std::alloc::AllocError;
 
-fn push_integer(out: &mut Vec<u8>, value: i128) -> Result<(), AllocError>
+#[inline(always)]
+#[tactic(auto, using(std::proofs::lemmas::Fmt::decimal_digit))]
+fn push_digit(out: &mut Vec<u8>, digit: u8) -> Result<(), AllocError>
+    requires { digit < 10 }
+    ensures { OnOk result (out.new.items ≡ out.old.items ++ decimal digit) }
+{
+    out.push(b'0' + digit)?;
+    Ok(())
+}
+
+fn push_digits(out: &mut Vec<u8>, value: i128) -> Result<(), AllocError>
     ensures { OnOk result (out.new.items ≡ out.old.items ++ signed_decimal value) }
 {
     let mut buffer = Buffer::new();
-    out.extend_from_slice(buffer.format(value).as_bytes())
+    match i64::try_from(value) {
+        Ok(value) => out.extend_from_slice(buffer.format(value).as_bytes()),
+        Err(_) => out.extend_from_slice(buffer.format(value).as_bytes()),
+    }
+}
+
+/// Appends an integer in decimal digits.
+#[inline(always)]
+fn push_integer(out: &mut Vec<u8>, value: i128) -> Result<(), AllocError>
+    ensures { OnOk result (out.new.items ≡ out.old.items ++ signed_decimal value) }
+{
+    match u8::try_from(value) {
+        Ok(digit) if digit < 10 => push_digit(out, digit),
+        _ => push_digits(out, value),
+    }
 }
 
 #[cycle(push)]
@@ -52,5 +76,19 @@ pub(crate) fn push_slot(out: &mut Vec<u8>, slot: Option<ValueRef<'_>>) -> Result
     match slot {
         None => out.extend_from_slice(b"null"),
         Some(value) => push_value(out, value),
+    }
+}
+
+/// Appends what a row of a column holds, as one JSON value; an integer takes no further call.
+#[inline(always)]
+pub(crate) fn push_row_value(
+    out: &mut Vec<u8>,
+    slot: Option<ValueRef<'_>>,
+) -> Result<(), AllocError>
+    ensures { OnOk result (out.new.items ≡ out.old.items ++ slot_text (slot_of_ref slot.entry)) }
+{
+    match slot {
+        Some(ValueRef::Int(z)) => push_integer(out, z),
+        _ => push_slot(out, slot),
     }
 }
