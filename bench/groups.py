@@ -1,7 +1,7 @@
 #!/usr/bin/env python3
 """Prints a Markdown table of px on group steps over ROWS rows, each beside pandas, sqlite3 and data.table on the same bytes, and of px on many aggregations.
 
-groups.py PX [ROWS] ; PX is the path of the executable. Seconds are wall seconds of a whole run, each the best of three; a peer prints a line for each group.
+groups.py PX [ROWS] ; PX is the path of the executable. Seconds are wall seconds of a whole run: of px the best of five, in turn with a document of twice the rows, of a peer the best of three; a peer prints a line for each group.
 """
 
 import os
@@ -9,7 +9,7 @@ import shutil
 import sys
 import tempfile
 
-from runs import measure, python_with_pandas, seconds, write
+from runs import measure, python_with_pandas, seconds, seconds_in_turn, write
 
 HERE = os.path.dirname(os.path.abspath(__file__))
 A, B = {"col": "a"}, {"col": "b"}
@@ -80,14 +80,14 @@ def main(px, rows="1000000"):
     print("|---|--:|--:|--:|---|--:|--:|")
     for step, aggregations in STEPS.items():
         for groups in (1000, rows // 3, rows):
-            with tempfile.NamedTemporaryFile("w") as file:
-                write(file, *document(rows, groups, aggregations))
-                once = seconds([px, "run"], file.name)
+            with tempfile.NamedTemporaryFile("w") as file, tempfile.NamedTemporaryFile("w") as twice_file:
                 scale = 2 if groups > 1000 else 1
-                twice = measure(px, document(2 * rows, scale * groups, aggregations)) / once
+                write(file, *document(rows, groups, aggregations))
+                write(twice_file, *document(2 * rows, scale * groups, aggregations))
+                once, twice = seconds_in_turn([px, "run"], [file.name, twice_file.name])
                 for name, command in peers(step):
                     other = seconds(command, file.name)
-                    print(f"| {step} | {groups} | {once:.3f} | {twice:.2f} | {name} | {other:.3f} | {once / other:.3f} |", flush=True)
+                    print(f"| {step} | {groups} | {once:.3f} | {twice / once:.2f} | {name} | {other:.3f} | {once / other:.3f} |", flush=True)
     print("\n| aggregations over as many columns, 2000 rows | px, seconds |\n|--:|--:|")
     for width in (500, 1000, 2000):
         print(f"| {width} | {measure(px, many(2000, width)):.3f} |", flush=True)

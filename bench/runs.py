@@ -17,16 +17,23 @@ def write(file, columns, steps):
     file.flush()
 
 
+def run_seconds(command, path):
+    """The seconds of one run, with the file as standard input."""
+    with open(path) as source:
+        start = time.perf_counter()
+        subprocess.run(command, stdin=source, stdout=subprocess.DEVNULL, check=True)
+        return time.perf_counter() - start
+
+
 def seconds(command, path):
     """The least of three runs' seconds, with the file as standard input."""
-    best = None
-    for _ in range(3):
-        with open(path) as source:
-            start = time.perf_counter()
-            subprocess.run(command, stdin=source, stdout=subprocess.DEVNULL, check=True)
-            taken = time.perf_counter() - start
-        best = taken if best is None else min(best, taken)
-    return best
+    return min(run_seconds(command, path) for _ in range(3))
+
+
+def seconds_in_turn(command, paths, times=5):
+    """The least seconds of so many runs over each file, one file after the other each time."""
+    rounds = [[run_seconds(command, path) for path in paths] for _ in range(times)]
+    return [min(taken) for taken in zip(*rounds)]
 
 
 def measure(px, made):
