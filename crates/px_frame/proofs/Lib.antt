@@ -17,5 +17,5 @@ pub mod Slices
 pub mod Consecutive
 pub mod InOrder
 pub mod Reducing
-pub mod Begun
+pub mod Partial
 pub mod Units

@@ -14,6 +14,6 @@ pub mod External
 pub mod Ordered
 pub mod Aggregate
 pub mod Reduced
-pub mod Begun
+pub mod Partial
 pub mod Schema
 pub mod SchemaView

@@ -9,7 +9,7 @@ ghost use Rattle.px_frame.specs.GroupsView.{groups_of, lent_group, with_rolling}
 ghost use Rattle.px_frame.specs.declared.groups.GroupsType.{GroupsType};
 ghost use Rattle.px_frame.specs.Reduced.{listed_by, reduced_at, reduced_by};
 
-use crate::blocks::{Begun, absorb_blocks};
+use crate::blocks::{Partial, absorb_blocks};
 use crate::groups::{GroupPositions, GroupsIndicator};
 use px_column::{
     Column, ColumnBuilder, ComputeWhy, DataType, GroupByMethod, Px, PxError, Value, reduced_type,
@@ -31,7 +31,7 @@ fn reduce_group<R: Reduce + Drop>(
     requires below { are_below (length values.now.slots) (lent_group group).rows ≡ true }
     ensures { AnswersBy slot_of result (Ok (reduced_at R.method values.now (lent_group group.entry))) }
 {
-    Begun::<R>::new(alloc, values, group)?.finish(values, group)
+    Partial::<R>::new(alloc, values, group)?.finish(values, group)
 }
 
 /// The reduction of the values at each group's rows, which is of the type of the rows to be built, group
@@ -71,8 +71,8 @@ fn reduce_in_blocks<R: Reduce + Drop>(
     let _ = values.rows();
     let all = absorb_blocks::<R>(alloc, values, groups)?;
     let mut index = 0;
-    for begun in all {
-        rows.push(begun.finish(values, groups.group(index))?)?;
+    for partial in all {
+        rows.push(partial.finish(values, groups.group(index))?)?;
         index += 1;
     }
     rows.finish()

@@ -1,6 +1,0 @@
-use Rattle.std.proofs.Common.{take}
-use Rattle.px_frame.specs.Begun.{AreBegun}
-use Rattle.px_frame.proofs.blocks.begin_all.Given as goal
-
-abbrev pub invariant-loop-index : goal.invariant-loop-index
-invariant-loop-index g l = AreBegun g.R.Reduce.stands_for l.values (take l.index l.groups.groups) l.all.items
