@@ -26,39 +26,22 @@ fn room_left(expr: &Expr, room: u32) -> Option<u32>
         Expr::Column(_) => Some(room),
         Expr::Literal(_) => Some(room),
         Expr::Alias(expr, _) => room_left(expr, room),
-        Expr::BinaryExpr { left, right, .. } => {
-            let room = room_left(left, room)?;
-            room_left(right, room)
-        }
+        Expr::BinaryExpr { left, right, .. } => room_behind_two(left, right, room),
         Expr::Ternary {
             predicate,
             truthy,
             falsy,
-        } => {
-            let room = room_left(predicate, room)?;
-            let room = room_left(truthy, room)?;
-            room_left(falsy, room)
-        }
+        } => room_behind_three(predicate, truthy, falsy, room),
         Expr::Cast { expr, .. } => room_left(expr, room),
         Expr::Function { input, .. } => room_behind_all(input, room),
         Expr::Explode(expr) => room_left(expr, room),
-        Expr::Filter { input, by } => {
-            let room = room_left(input, room)?;
-            room_left(by, room)
-        }
+        Expr::Filter { input, by } => room_behind_two(input, by, room),
         Expr::Slice {
             input,
             offset,
             length,
-        } => {
-            let room = room_left(input, room)?;
-            let room = room_left(offset, room)?;
-            room_left(length, room)
-        }
-        Expr::Gather { expr, idx, .. } => {
-            let room = room_left(expr, room)?;
-            room_left(idx, room)
-        }
+        } => room_behind_three(input, offset, length, room),
+        Expr::Gather { expr, idx, .. } => room_behind_two(expr, idx, room),
         Expr::Sort { expr, .. } => room_left(expr, room),
         Expr::SortBy { expr, by, .. } => {
             let room = room_left(expr, room)?;
@@ -77,6 +60,26 @@ fn room_left(expr: &Expr, room: u32) -> Option<u32>
             room_behind_order(order_by, room)
         }
     }
+}
+
+#[cycle(counting)]
+fn room_behind_two(first: &Expr, second: &Expr, room: u32) -> Option<u32>
+    ensures left { IfSome result (λ left. left + (nodes_of (tree first.now) + nodes_of (tree second.now)) ≡ room) }
+    ensures full { IsNone result → room < nodes_of (tree first.now) + nodes_of (tree second.now) }
+{
+    let room = room_left(first, room)?;
+    room_left(second, room)
+}
+
+#[cycle(counting)]
+fn room_behind_three(first: &Expr, second: &Expr, third: &Expr, room: u32) -> Option<u32>
+    ensures left { IfSome result
+        (λ left. left + (nodes_of (tree first.now) + nodes_of (tree second.now) + nodes_of (tree third.now)) ≡ room) }
+    ensures full { IsNone result →
+        room < nodes_of (tree first.now) + nodes_of (tree second.now) + nodes_of (tree third.now) }
+{
+    let room = room_behind_two(first, second, room)?;
+    room_left(third, room)
 }
 
 #[cycle(counting)]

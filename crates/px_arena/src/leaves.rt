@@ -35,8 +35,7 @@ fn push_names(alloc: Global, node: Node, arena: &Arena, names: &mut Vec<Name>) -
         AExpr::Literal(_) => Ok(()),
         AExpr::Alias(expr, _) => push_names(alloc, *expr, arena, names),
         AExpr::BinaryExpr { left, right, .. } => {
-            push_names(alloc, *left, arena, names)?;
-            push_names(alloc, *right, arena, names)
+            push_names_of_two(alloc, *left, *right, arena, names)
         }
         AExpr::Ternary {
             predicate,
@@ -44,29 +43,21 @@ fn push_names(alloc: Global, node: Node, arena: &Arena, names: &mut Vec<Name>) -
             falsy,
         } => {
             push_names(alloc, *predicate, arena, names)?;
-            push_names(alloc, *truthy, arena, names)?;
-            push_names(alloc, *falsy, arena, names)
+            push_names_of_two(alloc, *truthy, *falsy, arena, names)
         }
         AExpr::Cast { expr, .. } => push_names(alloc, *expr, arena, names),
         AExpr::Function { input, .. } => push_all_names(alloc, input, node.0, arena, names),
         AExpr::Explode(expr) => push_names(alloc, *expr, arena, names),
-        AExpr::Filter { input, by } => {
-            push_names(alloc, *input, arena, names)?;
-            push_names(alloc, *by, arena, names)
-        }
+        AExpr::Filter { input, by } => push_names_of_two(alloc, *input, *by, arena, names),
         AExpr::Slice {
             input,
             offset,
             length,
         } => {
             push_names(alloc, *input, arena, names)?;
-            push_names(alloc, *offset, arena, names)?;
-            push_names(alloc, *length, arena, names)
+            push_names_of_two(alloc, *offset, *length, arena, names)
         }
-        AExpr::Gather { expr, idx, .. } => {
-            push_names(alloc, *expr, arena, names)?;
-            push_names(alloc, *idx, arena, names)
-        }
+        AExpr::Gather { expr, idx, .. } => { push_names_of_two(alloc, *expr, *idx, arena, names) }
         AExpr::Sort { expr, .. } => push_names(alloc, *expr, arena, names),
         AExpr::SortBy { expr, by, .. } => {
             push_names(alloc, *expr, arena, names)?;
@@ -85,6 +76,24 @@ fn push_names(alloc: Global, node: Node, arena: &Arena, names: &mut Vec<Name>) -
             push_order_names(alloc, *order_by, node.0, arena, names)
         }
     }
+}
+
+#[cycle(push_names)]
+fn push_names_of_two(
+    alloc: Global,
+    first: Node,
+    second: Node,
+    arena: &Arena,
+    names: &mut Vec<Name>,
+) -> Px<()>
+    requires first { first.0 < length arena.now }
+    requires second { second.0 < length arena.now }
+    ensures memory { Answers result (Ok tt) }
+    ensures pushed { OnOk result
+        (names.new.items ≡ names.old.items ++ (leaf_names (tree_at arena.now first) ++ leaf_names (tree_at arena.now second))) }
+{
+    push_names(alloc, first, arena, names)?;
+    push_names(alloc, second, arena, names)
 }
 
 // The names of nodes that stand before a place.

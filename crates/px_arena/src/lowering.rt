@@ -1,14 +1,15 @@
 //! From expressions to arenas.
-ghost use Rattle.std.specs.Prelude.{◌≡◌, ◌+◌, ◌^◌, ◌<◌, ◌++◌, Ok, IfOk, OnOk, OnErr, length, true};
+ghost use Rattle.std.specs.Prelude.{◌≡◌, ◌+◌, ◌^◌, ◌<◌, ◌++◌, Ok, IfOk, OnOk, OnErr, length, true, ◌&&◌};
 ghost use Rattle.px_column.specs.Prelude.{Answers, AnswersBy};
 ghost use Rattle.px_arena.specs.Adding.{AddsFront};
-ghost use Rattle.px_arena.specs.Arena.{tree_at, trees_at, order_at, agg_at, node_tree, children_below, is_below, all_below, order_below, agg_input};
+ghost use Rattle.px_arena.specs.Arena.{tree_at, trees_at, order_at, agg_at, node_tree, children_below, is_below, all_below, order_below, agg_input, agg_method};
 ghost use Rattle.px_tree.specs.Nodes.{nodes_of, all_nodes_of, order_nodes_of, postorder, all_postorder, order_postorder, children_postorder};
+ghost use Rattle.px_tree.specs.Tree.{agg as reduction};
 ghost use Rattle.px_tree.specs.View.{tree, trees, agg_tree, order_tree};
 
 use crate::arena::Arena;
 use crate::node::{AExpr, IRAggExpr, Node};
-use px_column::{Px, SortOptions};
+use px_column::{GroupByMethod, Px, SortOptions};
 use px_tree::{AggExpr, Expr, Exprs};
 use std::alloc::Global;
 use std::rc::Rc;
@@ -50,8 +51,7 @@ fn children_to_arena(alloc: Global, expr: &Expr, arena: &mut Arena) -> Px<AExpr>
             Ok(AExpr::Alias(expr, name))
         }
         Expr::BinaryExpr { left, op, right } => {
-            let left = to_arena(alloc, left, arena)?;
-            let right = to_arena(alloc, right, arena)?;
+            let (left, right) = two_to_arena(alloc, left, right, arena)?;
             Ok(AExpr::BinaryExpr {
                 left,
                 op: *op,
@@ -63,9 +63,9 @@ fn children_to_arena(alloc: Global, expr: &Expr, arena: &mut Arena) -> Px<AExpr>
             truthy,
             falsy,
         } => {
-            let predicate = to_arena(alloc, predicate, arena)?;
-            let truthy = to_arena(alloc, truthy, arena)?;
-            let falsy = to_arena(alloc, falsy, arena)?;
+            let (predicate, truthy, falsy) = three_to_arena(
+                alloc, predicate, truthy, falsy, arena,
+            )?;
             Ok(AExpr::Ternary {
                 predicate,
                 truthy,
@@ -97,8 +97,7 @@ fn children_to_arena(alloc: Global, expr: &Expr, arena: &mut Arena) -> Px<AExpr>
             Ok(AExpr::Explode(expr))
         }
         Expr::Filter { input, by } => {
-            let input = to_arena(alloc, input, arena)?;
-            let by = to_arena(alloc, by, arena)?;
+            let (input, by) = two_to_arena(alloc, input, by, arena)?;
             Ok(AExpr::Filter { input, by })
         }
         Expr::Slice {
@@ -106,9 +105,7 @@ fn children_to_arena(alloc: Global, expr: &Expr, arena: &mut Arena) -> Px<AExpr>
             offset,
             length,
         } => {
-            let input = to_arena(alloc, input, arena)?;
-            let offset = to_arena(alloc, offset, arena)?;
-            let length = to_arena(alloc, length, arena)?;
+            let (input, offset, length) = three_to_arena(alloc, input, offset, length, arena)?;
             Ok(AExpr::Slice {
                 input,
                 offset,
@@ -120,8 +117,7 @@ fn children_to_arena(alloc: Global, expr: &Expr, arena: &mut Arena) -> Px<AExpr>
             idx,
             returns_scalar,
         } => {
-            let expr = to_arena(alloc, expr, arena)?;
-            let idx = to_arena(alloc, idx, arena)?;
+            let (expr, idx) = two_to_arena(alloc, expr, idx, arena)?;
             Ok(AExpr::Gather {
                 expr,
                 idx,
@@ -173,6 +169,53 @@ fn children_to_arena(alloc: Global, expr: &Expr, arena: &mut Arena) -> Px<AExpr>
     }
 }
 
+// Adds two expressions one after the other.
+#[cycle(to_arena)]
+fn two_to_arena(alloc: Global, first: &Expr, second: &Expr, arena: &mut Arena) -> Px<(Node, Node)>
+    requires { length arena.old + (nodes_of (tree first.now) + nodes_of (tree second.now)) < 2 ^ 32 }
+    ensures added { OnOk result
+        (arena.new ≡ arena.old ++ (postorder (tree first.now) ++ postorder (tree second.now))) }
+    ensures part { OnErr result
+        (AddsFront arena.old (postorder (tree first.now) ++ postorder (tree second.now)) arena.new) }
+    ensures count { OnOk result
+        (length arena.new ≡ length arena.old + (nodes_of (tree first.now) + nodes_of (tree second.now))) }
+    ensures first { AnswersBy (λ nodes. tree_at arena.new nodes.0) result (Ok (tree first.now)) }
+    ensures second { IfOk result (λ nodes. tree_at arena.new nodes.1 ≡ tree second.now) }
+    ensures below { IfOk result
+        (λ nodes. (is_below (length arena.new) nodes.0 && is_below (length arena.new) nodes.1) ≡ true) }
+{
+    let first = to_arena(alloc, first, arena)?;
+    let second = to_arena(alloc, second, arena)?;
+    Ok((first, second))
+}
+
+// Adds three expressions one after another.
+#[cycle(to_arena)]
+fn three_to_arena(
+    alloc: Global,
+    first: &Expr,
+    second: &Expr,
+    third: &Expr,
+    arena: &mut Arena,
+) -> Px<(Node, Node, Node)>
+    requires { length arena.old + (nodes_of (tree first.now) + (nodes_of (tree second.now) + nodes_of (tree third.now))) < 2 ^ 32 }
+    ensures added { OnOk result
+        (arena.new ≡ arena.old ++ (postorder (tree first.now) ++ (postorder (tree second.now) ++ postorder (tree third.now)))) }
+    ensures part { OnErr result
+        (AddsFront arena.old (postorder (tree first.now) ++ (postorder (tree second.now) ++ postorder (tree third.now))) arena.new) }
+    ensures count { OnOk result
+        (length arena.new ≡ length arena.old + (nodes_of (tree first.now) + (nodes_of (tree second.now) + nodes_of (tree third.now)))) }
+    ensures first { AnswersBy (λ nodes. tree_at arena.new nodes.0) result (Ok (tree first.now)) }
+    ensures second { IfOk result (λ nodes. tree_at arena.new nodes.1 ≡ tree second.now) }
+    ensures third { IfOk result (λ nodes. tree_at arena.new nodes.2 ≡ tree third.now) }
+    ensures below { IfOk result
+        (λ nodes. (is_below (length arena.new) nodes.0 && (is_below (length arena.new) nodes.1 && is_below (length arena.new) nodes.2)) ≡ true) }
+{
+    let first = to_arena(alloc, first, arena)?;
+    let (second, third) = two_to_arena(alloc, second, third, arena)?;
+    Ok((first, second, third))
+}
+
 // Adds expressions one after another.
 #[cycle(to_arena)]
 fn all_to_arena(alloc: Global, exprs: &Exprs, arena: &mut Arena) -> Px<Vec<Node>>
@@ -220,16 +263,45 @@ fn agg_to_arena(alloc: Global, agg: &AggExpr, arena: &mut Arena) -> Px<IRAggExpr
     ensures tree { AnswersBy (agg_at arena.new) result (Ok (agg_tree agg.now)) }
     ensures below { IfOk result (λ agg. is_below (length arena.new) (agg_input agg) ≡ true) }
 {
+    let (method, expr) = how_and_what(agg);
+    let expr = to_arena(alloc, expr, arena)?;
+    Ok(reduction_at(method, expr))
+}
+
+// How a reduction reduces, and what.
+fn how_and_what(agg: &AggExpr) -> (GroupByMethod, &Rc<Expr>)
+    ensures { agg_tree agg.now ≡ reduction result.0 (tree result.1.now.value) }
+{
     match agg {
-        AggExpr::Min(expr) => Ok(IRAggExpr::Min(to_arena(alloc, expr, arena)?)),
-        AggExpr::Max(expr) => Ok(IRAggExpr::Max(to_arena(alloc, expr, arena)?)),
-        AggExpr::Sum(expr) => Ok(IRAggExpr::Sum(to_arena(alloc, expr, arena)?)),
-        AggExpr::First(expr) => Ok(IRAggExpr::First(to_arena(alloc, expr, arena)?)),
-        AggExpr::Last(expr) => Ok(IRAggExpr::Last(to_arena(alloc, expr, arena)?)),
-        AggExpr::NUnique(expr) => Ok(IRAggExpr::NUnique(to_arena(alloc, expr, arena)?)),
-        AggExpr::Implode(expr) => Ok(IRAggExpr::Implode(to_arena(alloc, expr, arena)?)),
-        AggExpr::Count(expr, nulls) => {
-            Ok(IRAggExpr::Count(to_arena(alloc, expr, arena)?, *nulls))
-        }
+        AggExpr::Min(expr) => (GroupByMethod::Min, expr),
+        AggExpr::Max(expr) => (GroupByMethod::Max, expr),
+        AggExpr::Sum(expr) => (GroupByMethod::Sum, expr),
+        AggExpr::First(expr) => (GroupByMethod::First, expr),
+        AggExpr::Last(expr) => (GroupByMethod::Last, expr),
+        AggExpr::NUnique(expr) => (GroupByMethod::NUnique, expr),
+        AggExpr::Implode(expr) => (GroupByMethod::Implode, expr),
+        AggExpr::Count(expr, nulls) => (
+            GroupByMethod::Count {
+                include_nulls: *nulls,
+            },
+            expr,
+        ),
+    }
+}
+
+// The reduction of what stands at a place.
+fn reduction_at(method: GroupByMethod, expr: Node) -> IRAggExpr
+    ensures method { agg_method result ≡ method }
+    ensures input { agg_input result ≡ expr }
+{
+    match method {
+        GroupByMethod::Min => IRAggExpr::Min(expr),
+        GroupByMethod::Max => IRAggExpr::Max(expr),
+        GroupByMethod::Sum => IRAggExpr::Sum(expr),
+        GroupByMethod::First => IRAggExpr::First(expr),
+        GroupByMethod::Last => IRAggExpr::Last(expr),
+        GroupByMethod::NUnique => IRAggExpr::NUnique(expr),
+        GroupByMethod::Implode => IRAggExpr::Implode(expr),
+        GroupByMethod::Count { include_nulls } => IRAggExpr::Count(expr, include_nulls),
     }
 }

@@ -1,7 +1,8 @@
 //! From arenas to expressions.
 ghost use Rattle.std.specs.Prelude.{◌≡◌, ◌<◌, ◌≤◌, Ok, length, true};
 ghost use Rattle.px_column.specs.Prelude.{AnswersBy};
-ghost use Rattle.px_arena.specs.Arena.{tree_at, trees_at, order_at, agg_at, all_below, order_below, agg_input, is_below};
+ghost use Rattle.px_arena.specs.Arena.{tree_at, trees_at, order_at, agg_at, all_below, order_below, agg_input, agg_method, is_below};
+ghost use Rattle.px_tree.specs.Tree.{agg as reduction};
 ghost use Rattle.px_tree.specs.View.{tree, trees, agg_tree, order_tree};
 
 use crate::arena::Arena;
@@ -22,12 +23,11 @@ pub fn node_to_expr(alloc: Global, node: Node, arena: &Arena) -> Px<Expr>
         AExpr::Column(name) => Ok(Expr::Column(name.try_clone(alloc)?)),
         AExpr::Literal(value) => Ok(Expr::Literal(value.try_clone(alloc)?)),
         AExpr::Alias(expr, name) => {
-            let expr = share_expr(alloc, *expr, arena)?;
-            Ok(Expr::Alias(expr, name.try_clone(alloc)?))
+            let name = name.try_clone(alloc)?;
+            Ok(Expr::Alias(share_expr(alloc, *expr, arena)?, name))
         }
         AExpr::BinaryExpr { left, op, right } => {
-            let left = share_expr(alloc, *left, arena)?;
-            let right = share_expr(alloc, *right, arena)?;
+            let (left, right) = share_two(alloc, *left, *right, arena)?;
             Ok(Expr::BinaryExpr {
                 left,
                 op: *op,
@@ -39,9 +39,9 @@ pub fn node_to_expr(alloc: Global, node: Node, arena: &Arena) -> Px<Expr>
             truthy,
             falsy,
         } => {
-            let predicate = share_expr(alloc, *predicate, arena)?;
-            let truthy = share_expr(alloc, *truthy, arena)?;
-            let falsy = share_expr(alloc, *falsy, arena)?;
+            let (predicate, truthy, falsy) = share_three(
+                alloc, *predicate, *truthy, *falsy, arena,
+            )?;
             Ok(Expr::Ternary {
                 predicate,
                 truthy,
@@ -53,8 +53,8 @@ pub fn node_to_expr(alloc: Global, node: Node, arena: &Arena) -> Px<Expr>
             dtype,
             options,
         } => {
-            let expr = share_expr(alloc, *expr, arena)?;
             let dtype = dtype.try_clone(alloc)?;
+            let expr = share_expr(alloc, *expr, arena)?;
             Ok(Expr::Cast {
                 expr,
                 dtype,
@@ -70,8 +70,7 @@ pub fn node_to_expr(alloc: Global, node: Node, arena: &Arena) -> Px<Expr>
         }
         AExpr::Explode(expr) => Ok(Expr::Explode(share_expr(alloc, *expr, arena)?)),
         AExpr::Filter { input, by } => {
-            let input = share_expr(alloc, *input, arena)?;
-            let by = share_expr(alloc, *by, arena)?;
+            let (input, by) = share_two(alloc, *input, *by, arena)?;
             Ok(Expr::Filter { input, by })
         }
         AExpr::Slice {
@@ -79,9 +78,7 @@ pub fn node_to_expr(alloc: Global, node: Node, arena: &Arena) -> Px<Expr>
             offset,
             length,
         } => {
-            let input = share_expr(alloc, *input, arena)?;
-            let offset = share_expr(alloc, *offset, arena)?;
-            let length = share_expr(alloc, *length, arena)?;
+            let (input, offset, length) = share_three(alloc, *input, *offset, *length, arena)?;
             Ok(Expr::Slice {
                 input,
                 offset,
@@ -93,8 +90,7 @@ pub fn node_to_expr(alloc: Global, node: Node, arena: &Arena) -> Px<Expr>
             idx,
             returns_scalar,
         } => {
-            let expr = share_expr(alloc, *expr, arena)?;
-            let idx = share_expr(alloc, *idx, arena)?;
+            let (expr, idx) = share_two(alloc, *expr, *idx, arena)?;
             Ok(Expr::Gather {
                 expr,
                 idx,
@@ -113,9 +109,9 @@ pub fn node_to_expr(alloc: Global, node: Node, arena: &Arena) -> Px<Expr>
             by,
             sort_options,
         } => {
+            let sort_options = sort_options.try_clone(alloc)?;
             let expr = share_expr(alloc, *expr, arena)?;
             let by = nodes_to_exprs(alloc, by, node.0, arena)?;
-            let sort_options = sort_options.try_clone(alloc)?;
             Ok(Expr::SortBy {
                 expr,
                 by,
@@ -150,6 +146,38 @@ fn share_expr(alloc: Global, node: Node, arena: &Arena) -> Px<Rc<Expr>>
 {
     let expr = node_to_expr(alloc, node, arena)?;
     Ok(Rc::new(alloc, expr)?)
+}
+
+#[cycle(node_to_expr)]
+fn share_two(alloc: Global, first: Node, second: Node, arena: &Arena) -> Px<(Rc<Expr>, Rc<Expr>)>
+    requires first { first.0 < length arena.now }
+    requires second { second.0 < length arena.now }
+    ensures first { AnswersBy (λ exprs. tree exprs.0.value) result (Ok (tree_at arena.now first)) }
+    ensures second { AnswersBy (λ exprs. tree exprs.1.value) result (Ok (tree_at arena.now second)) }
+{
+    let first = share_expr(alloc, first, arena)?;
+    let second = share_expr(alloc, second, arena)?;
+    Ok((first, second))
+}
+
+#[cycle(node_to_expr)]
+fn share_three(
+    alloc: Global,
+    first: Node,
+    second: Node,
+    third: Node,
+    arena: &Arena,
+) -> Px<(Rc<Expr>, Rc<Expr>, Rc<Expr>)>
+    requires first { first.0 < length arena.now }
+    requires second { second.0 < length arena.now }
+    requires third { third.0 < length arena.now }
+    ensures first { AnswersBy (λ exprs. tree exprs.0.value) result (Ok (tree_at arena.now first)) }
+    ensures second { AnswersBy (λ exprs. tree exprs.1.value) result (Ok (tree_at arena.now second)) }
+    ensures third { AnswersBy (λ exprs. tree exprs.2.value) result (Ok (tree_at arena.now third)) }
+{
+    let first = share_expr(alloc, first, arena)?;
+    let (second, third) = share_two(alloc, second, third, arena)?;
+    Ok((first, second, third))
 }
 
 // The expressions of nodes that stand before a place.
@@ -191,14 +219,22 @@ fn agg_to_expr(alloc: Global, agg: IRAggExpr, before: u32, arena: &Arena) -> Px<
     requires below { is_below before (agg_input agg) ≡ true }
     ensures { AnswersBy agg_tree result (Ok (agg_at arena.now agg)) }
 {
+    let expr = share_expr(alloc, agg.input(), arena)?;
+    Ok(reduction_of(agg, expr))
+}
+
+// A reduction of an expression, in the way of one in an arena.
+fn reduction_of(agg: IRAggExpr, expr: Rc<Expr>) -> AggExpr
+    ensures { agg_tree result ≡ reduction (agg_method agg) (tree expr.value) }
+{
     match agg {
-        IRAggExpr::Min(expr) => Ok(AggExpr::Min(share_expr(alloc, expr, arena)?)),
-        IRAggExpr::Max(expr) => Ok(AggExpr::Max(share_expr(alloc, expr, arena)?)),
-        IRAggExpr::Sum(expr) => Ok(AggExpr::Sum(share_expr(alloc, expr, arena)?)),
-        IRAggExpr::First(expr) => Ok(AggExpr::First(share_expr(alloc, expr, arena)?)),
-        IRAggExpr::Last(expr) => Ok(AggExpr::Last(share_expr(alloc, expr, arena)?)),
-        IRAggExpr::NUnique(expr) => Ok(AggExpr::NUnique(share_expr(alloc, expr, arena)?)),
-        IRAggExpr::Implode(expr) => Ok(AggExpr::Implode(share_expr(alloc, expr, arena)?)),
-        IRAggExpr::Count(expr, nulls) => Ok(AggExpr::Count(share_expr(alloc, expr, arena)?, nulls)),
+        IRAggExpr::Min(_) => AggExpr::Min(expr),
+        IRAggExpr::Max(_) => AggExpr::Max(expr),
+        IRAggExpr::Sum(_) => AggExpr::Sum(expr),
+        IRAggExpr::First(_) => AggExpr::First(expr),
+        IRAggExpr::Last(_) => AggExpr::Last(expr),
+        IRAggExpr::NUnique(_) => AggExpr::NUnique(expr),
+        IRAggExpr::Implode(_) => AggExpr::Implode(expr),
+        IRAggExpr::Count(_, nulls) => AggExpr::Count(expr, nulls),
     }
 }

@@ -10,167 +10,6 @@ use Rattle.px_tree.specs.Tree.{Tree, Trees, Order, trees_of, binary, ternary, fi
 use Rattle.px_tree.specs.View.{tree, trees, order_tree, mapping_of}
 use Rattle.px_arena.proofs.lowering.+to_arena.Goals as goal
 
-pub children_to_arena-returns-in_err-left-in-BinaryExpr-clause-part : goal.children_to_arena-returns-in_err-left-in-BinaryExpr-clause-part
-children_to_arena-returns-in_err-left-in-BinaryExpr-clause-part t c =
-    let shape = ap tree c.in-BinaryExpr.is ∙ tree-BinaryExpr c.in-BinaryExpr.left c.in-BinaryExpr.op c.in-BinaryExpr.right in
-    let told : children_postorder (tree c.args.expr.now) ≡ postorder (tree c.in-BinaryExpr.left.value) ++ postorder (tree c.in-BinaryExpr.right.value) = ap children_postorder shape in
-    let e : children_postorder (tree c.args.expr.now) ≡ postorder (tree c.deref-in-BinaryExpr.result.now) ++ postorder (tree c.in-BinaryExpr.right.value) = cc (told, c.deref-in-BinaryExpr.ensures) in
-    OnErr-of _ (AddsFront c.args.arena.now (children_postorder (tree c.args.expr.now)) c.to_arena-in-BinaryExpr.new.arena) (rw e (AddsFront-more _ _ _ _ c.in_err-left-in-BinaryExpr.ensures.part))
-
-pub children_to_arena-returns-in_err-right-in-BinaryExpr-clause-part : goal.children_to_arena-returns-in_err-right-in-BinaryExpr-clause-part
-children_to_arena-returns-in_err-right-in-BinaryExpr-clause-part t c =
-    let shape = ap tree c.in-BinaryExpr.is ∙ tree-BinaryExpr c.in-BinaryExpr.left c.in-BinaryExpr.op c.in-BinaryExpr.right in
-    let told : children_postorder (tree c.args.expr.now) ≡ postorder (tree c.in-BinaryExpr.left.value) ++ postorder (tree c.in-BinaryExpr.right.value) = ap children_postorder shape in
-    let e : children_postorder (tree c.args.expr.now) ≡ postorder (tree c.deref-in-BinaryExpr.result.now) ++ postorder (tree c.deref-in-BinaryExpr-2.result.now) = cc (told, c.deref-in-BinaryExpr.ensures, c.deref-in-BinaryExpr-2.ensures) in
-    OnErr-of _ (AddsFront c.args.arena.now (children_postorder (tree c.args.expr.now)) c.to_arena-in-BinaryExpr-2.new.arena) (rw e (AddsFront-after _ _ _ _ _ c.in_ok-left-in-BinaryExpr.ensures.added c.in_err-right-in-BinaryExpr.ensures.part))
-
-pub children_to_arena-returns-in_ok-right-in-BinaryExpr-clause-added : goal.children_to_arena-returns-in_ok-right-in-BinaryExpr-clause-added
-children_to_arena-returns-in_ok-right-in-BinaryExpr-clause-added t c =
-    let shape = ap tree c.in-BinaryExpr.is ∙ tree-BinaryExpr c.in-BinaryExpr.left c.in-BinaryExpr.op c.in-BinaryExpr.right in
-    let told : children_postorder (tree c.args.expr.now) ≡ postorder (tree c.in-BinaryExpr.left.value) ++ postorder (tree c.in-BinaryExpr.right.value) = ap children_postorder shape in
-    let e : children_postorder (tree c.args.expr.now) ≡ postorder (tree c.deref-in-BinaryExpr.result.now) ++ postorder (tree c.deref-in-BinaryExpr-2.result.now) = cc (told, c.deref-in-BinaryExpr.ensures, c.deref-in-BinaryExpr-2.ensures) in
-    rw e (added_twice _ _ _ _ _ c.in_ok-left-in-BinaryExpr.ensures.added c.in_ok-right-in-BinaryExpr.ensures.added)
-
-pub children_to_arena-returns-in_ok-right-in-BinaryExpr-clause-tree : goal.children_to_arena-returns-in_ok-right-in-BinaryExpr-clause-tree
-children_to_arena-returns-in_ok-right-in-BinaryExpr-clause-tree t c =
-    let make : Tree → Tree → Tree = λ x y. binary x c.in-BinaryExpr.op y in
-    let told : tree c.args.expr.now ≡ make (tree c.in-BinaryExpr.left.value) (tree c.in-BinaryExpr.right.value) = ap tree c.in-BinaryExpr.is ∙ tree-BinaryExpr c.in-BinaryExpr.left c.in-BinaryExpr.op c.in-BinaryExpr.right in
-    let e : tree c.args.expr.now ≡ make (tree c.deref-in-BinaryExpr.result.now) (tree c.deref-in-BinaryExpr-2.result.now) = cc (told, c.deref-in-BinaryExpr.ensures, c.deref-in-BinaryExpr-2.ensures) in
-    let kept0 = kept {E = PxError} c.to_arena-in-BinaryExpr.new.arena c.to_arena-in-BinaryExpr-2.new.arena _ c.in_ok-left-in-BinaryExpr.left (tree c.deref-in-BinaryExpr.result.now) c.in_ok-right-in-BinaryExpr.ensures.added c.in_ok-left-in-BinaryExpr.ensures.last c.in_ok-left-in-BinaryExpr.ensures.tree in
-    ap Ok (made_of_two make _ _ _ _ _ e kept0 c.in_ok-right-in-BinaryExpr.ensures.tree)
-
-pub children_to_arena-returns-in_err-input-in-Filter-clause-part : goal.children_to_arena-returns-in_err-input-in-Filter-clause-part
-children_to_arena-returns-in_err-input-in-Filter-clause-part t c =
-    let shape = ap tree c.in-Filter.is ∙ tree-Filter c.in-Filter.input c.in-Filter.by in
-    let told : children_postorder (tree c.args.expr.now) ≡ postorder (tree c.in-Filter.input.value) ++ postorder (tree c.in-Filter.by.value) = ap children_postorder shape in
-    let e : children_postorder (tree c.args.expr.now) ≡ postorder (tree c.deref-in-Filter.result.now) ++ postorder (tree c.in-Filter.by.value) = cc (told, c.deref-in-Filter.ensures) in
-    OnErr-of _ (AddsFront c.args.arena.now (children_postorder (tree c.args.expr.now)) c.to_arena-in-Filter.new.arena) (rw e (AddsFront-more _ _ _ _ c.in_err-input-in-Filter.ensures.part))
-
-pub children_to_arena-returns-in_err-by-in-Filter-clause-part : goal.children_to_arena-returns-in_err-by-in-Filter-clause-part
-children_to_arena-returns-in_err-by-in-Filter-clause-part t c =
-    let shape = ap tree c.in-Filter.is ∙ tree-Filter c.in-Filter.input c.in-Filter.by in
-    let told : children_postorder (tree c.args.expr.now) ≡ postorder (tree c.in-Filter.input.value) ++ postorder (tree c.in-Filter.by.value) = ap children_postorder shape in
-    let e : children_postorder (tree c.args.expr.now) ≡ postorder (tree c.deref-in-Filter.result.now) ++ postorder (tree c.deref-in-Filter-2.result.now) = cc (told, c.deref-in-Filter.ensures, c.deref-in-Filter-2.ensures) in
-    OnErr-of _ (AddsFront c.args.arena.now (children_postorder (tree c.args.expr.now)) c.to_arena-in-Filter-2.new.arena) (rw e (AddsFront-after _ _ _ _ _ c.in_ok-input-in-Filter.ensures.added c.in_err-by-in-Filter.ensures.part))
-
-pub children_to_arena-returns-in_ok-by-in-Filter-clause-added : goal.children_to_arena-returns-in_ok-by-in-Filter-clause-added
-children_to_arena-returns-in_ok-by-in-Filter-clause-added t c =
-    let shape = ap tree c.in-Filter.is ∙ tree-Filter c.in-Filter.input c.in-Filter.by in
-    let told : children_postorder (tree c.args.expr.now) ≡ postorder (tree c.in-Filter.input.value) ++ postorder (tree c.in-Filter.by.value) = ap children_postorder shape in
-    let e : children_postorder (tree c.args.expr.now) ≡ postorder (tree c.deref-in-Filter.result.now) ++ postorder (tree c.deref-in-Filter-2.result.now) = cc (told, c.deref-in-Filter.ensures, c.deref-in-Filter-2.ensures) in
-    rw e (added_twice _ _ _ _ _ c.in_ok-input-in-Filter.ensures.added c.in_ok-by-in-Filter.ensures.added)
-
-pub children_to_arena-returns-in_ok-by-in-Filter-clause-tree : goal.children_to_arena-returns-in_ok-by-in-Filter-clause-tree
-children_to_arena-returns-in_ok-by-in-Filter-clause-tree t c =
-    let make : Tree → Tree → Tree = λ x y. filter x y in
-    let told : tree c.args.expr.now ≡ make (tree c.in-Filter.input.value) (tree c.in-Filter.by.value) = ap tree c.in-Filter.is ∙ tree-Filter c.in-Filter.input c.in-Filter.by in
-    let e : tree c.args.expr.now ≡ make (tree c.deref-in-Filter.result.now) (tree c.deref-in-Filter-2.result.now) = cc (told, c.deref-in-Filter.ensures, c.deref-in-Filter-2.ensures) in
-    let kept0 = kept {E = PxError} c.to_arena-in-Filter.new.arena c.to_arena-in-Filter-2.new.arena _ c.in_ok-input-in-Filter.input (tree c.deref-in-Filter.result.now) c.in_ok-by-in-Filter.ensures.added c.in_ok-input-in-Filter.ensures.last c.in_ok-input-in-Filter.ensures.tree in
-    ap Ok (made_of_two make _ _ _ _ _ e kept0 c.in_ok-by-in-Filter.ensures.tree)
-
-pub children_to_arena-returns-in_err-expr-in-Gather-clause-part : goal.children_to_arena-returns-in_err-expr-in-Gather-clause-part
-children_to_arena-returns-in_err-expr-in-Gather-clause-part t c =
-    let shape = ap tree c.in-Gather.is ∙ tree-Gather c.in-Gather.expr c.in-Gather.idx c.in-Gather.returns_scalar in
-    let told : children_postorder (tree c.args.expr.now) ≡ postorder (tree c.in-Gather.expr.value) ++ postorder (tree c.in-Gather.idx.value) = ap children_postorder shape in
-    let e : children_postorder (tree c.args.expr.now) ≡ postorder (tree c.deref-in-Gather.result.now) ++ postorder (tree c.in-Gather.idx.value) = cc (told, c.deref-in-Gather.ensures) in
-    OnErr-of _ (AddsFront c.args.arena.now (children_postorder (tree c.args.expr.now)) c.to_arena-in-Gather.new.arena) (rw e (AddsFront-more _ _ _ _ c.in_err-expr-in-Gather.ensures.part))
-
-pub children_to_arena-returns-in_err-idx-in-Gather-clause-part : goal.children_to_arena-returns-in_err-idx-in-Gather-clause-part
-children_to_arena-returns-in_err-idx-in-Gather-clause-part t c =
-    let shape = ap tree c.in-Gather.is ∙ tree-Gather c.in-Gather.expr c.in-Gather.idx c.in-Gather.returns_scalar in
-    let told : children_postorder (tree c.args.expr.now) ≡ postorder (tree c.in-Gather.expr.value) ++ postorder (tree c.in-Gather.idx.value) = ap children_postorder shape in
-    let e : children_postorder (tree c.args.expr.now) ≡ postorder (tree c.deref-in-Gather.result.now) ++ postorder (tree c.deref-in-Gather-2.result.now) = cc (told, c.deref-in-Gather.ensures, c.deref-in-Gather-2.ensures) in
-    OnErr-of _ (AddsFront c.args.arena.now (children_postorder (tree c.args.expr.now)) c.to_arena-in-Gather-2.new.arena) (rw e (AddsFront-after _ _ _ _ _ c.in_ok-expr-in-Gather.ensures.added c.in_err-idx-in-Gather.ensures.part))
-
-pub children_to_arena-returns-in_ok-idx-in-Gather-clause-added : goal.children_to_arena-returns-in_ok-idx-in-Gather-clause-added
-children_to_arena-returns-in_ok-idx-in-Gather-clause-added t c =
-    let shape = ap tree c.in-Gather.is ∙ tree-Gather c.in-Gather.expr c.in-Gather.idx c.in-Gather.returns_scalar in
-    let told : children_postorder (tree c.args.expr.now) ≡ postorder (tree c.in-Gather.expr.value) ++ postorder (tree c.in-Gather.idx.value) = ap children_postorder shape in
-    let e : children_postorder (tree c.args.expr.now) ≡ postorder (tree c.deref-in-Gather.result.now) ++ postorder (tree c.deref-in-Gather-2.result.now) = cc (told, c.deref-in-Gather.ensures, c.deref-in-Gather-2.ensures) in
-    rw e (added_twice _ _ _ _ _ c.in_ok-expr-in-Gather.ensures.added c.in_ok-idx-in-Gather.ensures.added)
-
-pub children_to_arena-returns-in_ok-idx-in-Gather-clause-tree : goal.children_to_arena-returns-in_ok-idx-in-Gather-clause-tree
-children_to_arena-returns-in_ok-idx-in-Gather-clause-tree t c =
-    let make : Tree → Tree → Tree = λ x y. gather x y c.in-Gather.returns_scalar in
-    let told : tree c.args.expr.now ≡ make (tree c.in-Gather.expr.value) (tree c.in-Gather.idx.value) = ap tree c.in-Gather.is ∙ tree-Gather c.in-Gather.expr c.in-Gather.idx c.in-Gather.returns_scalar in
-    let e : tree c.args.expr.now ≡ make (tree c.deref-in-Gather.result.now) (tree c.deref-in-Gather-2.result.now) = cc (told, c.deref-in-Gather.ensures, c.deref-in-Gather-2.ensures) in
-    let kept0 = kept {E = PxError} c.to_arena-in-Gather.new.arena c.to_arena-in-Gather-2.new.arena _ c.in_ok-expr-in-Gather.expr (tree c.deref-in-Gather.result.now) c.in_ok-idx-in-Gather.ensures.added c.in_ok-expr-in-Gather.ensures.last c.in_ok-expr-in-Gather.ensures.tree in
-    ap Ok (made_of_two make _ _ _ _ _ e kept0 c.in_ok-idx-in-Gather.ensures.tree)
-
-pub children_to_arena-returns-in_err-predicate-in-Ternary-clause-part : goal.children_to_arena-returns-in_err-predicate-in-Ternary-clause-part
-children_to_arena-returns-in_err-predicate-in-Ternary-clause-part t c =
-    let shape = ap tree c.in-Ternary.is ∙ tree-Ternary c.in-Ternary.predicate c.in-Ternary.truthy c.in-Ternary.falsy in
-    let told : children_postorder (tree c.args.expr.now) ≡ postorder (tree c.in-Ternary.predicate.value) ++ (postorder (tree c.in-Ternary.truthy.value) ++ postorder (tree c.in-Ternary.falsy.value)) = ap children_postorder shape in
-    let e : children_postorder (tree c.args.expr.now) ≡ postorder (tree c.deref-in-Ternary.result.now) ++ (postorder (tree c.in-Ternary.truthy.value) ++ postorder (tree c.in-Ternary.falsy.value)) = cc (told, c.deref-in-Ternary.ensures) in
-    OnErr-of _ (AddsFront c.args.arena.now (children_postorder (tree c.args.expr.now)) c.to_arena-in-Ternary.new.arena) (rw e (AddsFront-more _ _ _ _ c.in_err-predicate-in-Ternary.ensures.part))
-
-pub children_to_arena-returns-in_err-truthy-in-Ternary-clause-part : goal.children_to_arena-returns-in_err-truthy-in-Ternary-clause-part
-children_to_arena-returns-in_err-truthy-in-Ternary-clause-part t c =
-    let shape = ap tree c.in-Ternary.is ∙ tree-Ternary c.in-Ternary.predicate c.in-Ternary.truthy c.in-Ternary.falsy in
-    let told : children_postorder (tree c.args.expr.now) ≡ postorder (tree c.in-Ternary.predicate.value) ++ (postorder (tree c.in-Ternary.truthy.value) ++ postorder (tree c.in-Ternary.falsy.value)) = ap children_postorder shape in
-    let e : children_postorder (tree c.args.expr.now) ≡ postorder (tree c.deref-in-Ternary.result.now) ++ (postorder (tree c.deref-in-Ternary-2.result.now) ++ postorder (tree c.in-Ternary.falsy.value)) = cc (told, c.deref-in-Ternary.ensures, c.deref-in-Ternary-2.ensures) in
-    OnErr-of _ (AddsFront c.args.arena.now (children_postorder (tree c.args.expr.now)) c.to_arena-in-Ternary-2.new.arena) (rw e (AddsFront-after _ _ _ _ _ c.in_ok-predicate-in-Ternary.ensures.added (AddsFront-more _ _ _ _ c.in_err-truthy-in-Ternary.ensures.part)))
-
-pub children_to_arena-returns-in_err-falsy-in-Ternary-clause-part : goal.children_to_arena-returns-in_err-falsy-in-Ternary-clause-part
-children_to_arena-returns-in_err-falsy-in-Ternary-clause-part t c =
-    let shape = ap tree c.in-Ternary.is ∙ tree-Ternary c.in-Ternary.predicate c.in-Ternary.truthy c.in-Ternary.falsy in
-    let told : children_postorder (tree c.args.expr.now) ≡ postorder (tree c.in-Ternary.predicate.value) ++ (postorder (tree c.in-Ternary.truthy.value) ++ postorder (tree c.in-Ternary.falsy.value)) = ap children_postorder shape in
-    let e : children_postorder (tree c.args.expr.now) ≡ postorder (tree c.deref-in-Ternary.result.now) ++ (postorder (tree c.deref-in-Ternary-2.result.now) ++ postorder (tree c.deref-in-Ternary-3.result.now)) = cc (told, c.deref-in-Ternary.ensures, c.deref-in-Ternary-2.ensures, c.deref-in-Ternary-3.ensures) in
-    OnErr-of _ (AddsFront c.args.arena.now (children_postorder (tree c.args.expr.now)) c.to_arena-in-Ternary-3.new.arena) (rw e (AddsFront-after _ _ _ _ _ c.in_ok-predicate-in-Ternary.ensures.added (AddsFront-after _ _ _ _ _ c.in_ok-truthy-in-Ternary.ensures.added c.in_err-falsy-in-Ternary.ensures.part)))
-
-pub children_to_arena-returns-in_ok-falsy-in-Ternary-clause-added : goal.children_to_arena-returns-in_ok-falsy-in-Ternary-clause-added
-children_to_arena-returns-in_ok-falsy-in-Ternary-clause-added t c =
-    let shape = ap tree c.in-Ternary.is ∙ tree-Ternary c.in-Ternary.predicate c.in-Ternary.truthy c.in-Ternary.falsy in
-    let told : children_postorder (tree c.args.expr.now) ≡ postorder (tree c.in-Ternary.predicate.value) ++ (postorder (tree c.in-Ternary.truthy.value) ++ postorder (tree c.in-Ternary.falsy.value)) = ap children_postorder shape in
-    let e : children_postorder (tree c.args.expr.now) ≡ postorder (tree c.deref-in-Ternary.result.now) ++ (postorder (tree c.deref-in-Ternary-2.result.now) ++ postorder (tree c.deref-in-Ternary-3.result.now)) = cc (told, c.deref-in-Ternary.ensures, c.deref-in-Ternary-2.ensures, c.deref-in-Ternary-3.ensures) in
-    rw e (added_thrice _ _ _ _ _ _ _ c.in_ok-predicate-in-Ternary.ensures.added c.in_ok-truthy-in-Ternary.ensures.added c.in_ok-falsy-in-Ternary.ensures.added)
-
-pub children_to_arena-returns-in_ok-falsy-in-Ternary-clause-tree : goal.children_to_arena-returns-in_ok-falsy-in-Ternary-clause-tree
-children_to_arena-returns-in_ok-falsy-in-Ternary-clause-tree t c =
-    let make : Tree → Tree → Tree → Tree = λ x y z. ternary x y z in
-    let told : tree c.args.expr.now ≡ make (tree c.in-Ternary.predicate.value) (tree c.in-Ternary.truthy.value) (tree c.in-Ternary.falsy.value) = ap tree c.in-Ternary.is ∙ tree-Ternary c.in-Ternary.predicate c.in-Ternary.truthy c.in-Ternary.falsy in
-    let e : tree c.args.expr.now ≡ make (tree c.deref-in-Ternary.result.now) (tree c.deref-in-Ternary-2.result.now) (tree c.deref-in-Ternary-3.result.now) = cc (told, c.deref-in-Ternary.ensures, c.deref-in-Ternary-2.ensures, c.deref-in-Ternary-3.ensures) in
-    let kept0 = kept {E = PxError} c.to_arena-in-Ternary.new.arena c.to_arena-in-Ternary-3.new.arena _ c.in_ok-predicate-in-Ternary.predicate (tree c.deref-in-Ternary.result.now) (added_twice c.to_arena-in-Ternary.new.arena c.to_arena-in-Ternary-2.new.arena c.to_arena-in-Ternary-3.new.arena (postorder (tree c.deref-in-Ternary-2.result.now)) (postorder (tree c.deref-in-Ternary-3.result.now)) c.in_ok-truthy-in-Ternary.ensures.added c.in_ok-falsy-in-Ternary.ensures.added) c.in_ok-predicate-in-Ternary.ensures.last c.in_ok-predicate-in-Ternary.ensures.tree in
-    let kept1 = kept {E = PxError} c.to_arena-in-Ternary-2.new.arena c.to_arena-in-Ternary-3.new.arena _ c.in_ok-truthy-in-Ternary.truthy (tree c.deref-in-Ternary-2.result.now) c.in_ok-falsy-in-Ternary.ensures.added c.in_ok-truthy-in-Ternary.ensures.last c.in_ok-truthy-in-Ternary.ensures.tree in
-    ap Ok (made_of_three make _ _ _ _ _ _ _ e kept0 kept1 c.in_ok-falsy-in-Ternary.ensures.tree)
-
-pub children_to_arena-returns-in_err-input-in-Slice-clause-part : goal.children_to_arena-returns-in_err-input-in-Slice-clause-part
-children_to_arena-returns-in_err-input-in-Slice-clause-part t c =
-    let shape = ap tree c.in-Slice.is ∙ tree-Slice c.in-Slice.input c.in-Slice.offset c.in-Slice.length in
-    let told : children_postorder (tree c.args.expr.now) ≡ postorder (tree c.in-Slice.input.value) ++ (postorder (tree c.in-Slice.offset.value) ++ postorder (tree c.in-Slice.length.value)) = ap children_postorder shape in
-    let e : children_postorder (tree c.args.expr.now) ≡ postorder (tree c.deref-in-Slice.result.now) ++ (postorder (tree c.in-Slice.offset.value) ++ postorder (tree c.in-Slice.length.value)) = cc (told, c.deref-in-Slice.ensures) in
-    OnErr-of _ (AddsFront c.args.arena.now (children_postorder (tree c.args.expr.now)) c.to_arena-in-Slice.new.arena) (rw e (AddsFront-more _ _ _ _ c.in_err-input-in-Slice.ensures.part))
-
-pub children_to_arena-returns-in_err-offset-in-Slice-clause-part : goal.children_to_arena-returns-in_err-offset-in-Slice-clause-part
-children_to_arena-returns-in_err-offset-in-Slice-clause-part t c =
-    let shape = ap tree c.in-Slice.is ∙ tree-Slice c.in-Slice.input c.in-Slice.offset c.in-Slice.length in
-    let told : children_postorder (tree c.args.expr.now) ≡ postorder (tree c.in-Slice.input.value) ++ (postorder (tree c.in-Slice.offset.value) ++ postorder (tree c.in-Slice.length.value)) = ap children_postorder shape in
-    let e : children_postorder (tree c.args.expr.now) ≡ postorder (tree c.deref-in-Slice.result.now) ++ (postorder (tree c.deref-in-Slice-2.result.now) ++ postorder (tree c.in-Slice.length.value)) = cc (told, c.deref-in-Slice.ensures, c.deref-in-Slice-2.ensures) in
-    OnErr-of _ (AddsFront c.args.arena.now (children_postorder (tree c.args.expr.now)) c.to_arena-in-Slice-2.new.arena) (rw e (AddsFront-after _ _ _ _ _ c.in_ok-input-in-Slice.ensures.added (AddsFront-more _ _ _ _ c.in_err-offset-in-Slice.ensures.part)))
-
-pub children_to_arena-returns-in_err-length-in-Slice-clause-part : goal.children_to_arena-returns-in_err-length-in-Slice-clause-part
-children_to_arena-returns-in_err-length-in-Slice-clause-part t c =
-    let shape = ap tree c.in-Slice.is ∙ tree-Slice c.in-Slice.input c.in-Slice.offset c.in-Slice.length in
-    let told : children_postorder (tree c.args.expr.now) ≡ postorder (tree c.in-Slice.input.value) ++ (postorder (tree c.in-Slice.offset.value) ++ postorder (tree c.in-Slice.length.value)) = ap children_postorder shape in
-    let e : children_postorder (tree c.args.expr.now) ≡ postorder (tree c.deref-in-Slice.result.now) ++ (postorder (tree c.deref-in-Slice-2.result.now) ++ postorder (tree c.deref-in-Slice-3.result.now)) = cc (told, c.deref-in-Slice.ensures, c.deref-in-Slice-2.ensures, c.deref-in-Slice-3.ensures) in
-    OnErr-of _ (AddsFront c.args.arena.now (children_postorder (tree c.args.expr.now)) c.to_arena-in-Slice-3.new.arena) (rw e (AddsFront-after _ _ _ _ _ c.in_ok-input-in-Slice.ensures.added (AddsFront-after _ _ _ _ _ c.in_ok-offset-in-Slice.ensures.added c.in_err-length-in-Slice.ensures.part)))
-
-pub children_to_arena-returns-in_ok-length-in-Slice-clause-added : goal.children_to_arena-returns-in_ok-length-in-Slice-clause-added
-children_to_arena-returns-in_ok-length-in-Slice-clause-added t c =
-    let shape = ap tree c.in-Slice.is ∙ tree-Slice c.in-Slice.input c.in-Slice.offset c.in-Slice.length in
-    let told : children_postorder (tree c.args.expr.now) ≡ postorder (tree c.in-Slice.input.value) ++ (postorder (tree c.in-Slice.offset.value) ++ postorder (tree c.in-Slice.length.value)) = ap children_postorder shape in
-    let e : children_postorder (tree c.args.expr.now) ≡ postorder (tree c.deref-in-Slice.result.now) ++ (postorder (tree c.deref-in-Slice-2.result.now) ++ postorder (tree c.deref-in-Slice-3.result.now)) = cc (told, c.deref-in-Slice.ensures, c.deref-in-Slice-2.ensures, c.deref-in-Slice-3.ensures) in
-    rw e (added_thrice _ _ _ _ _ _ _ c.in_ok-input-in-Slice.ensures.added c.in_ok-offset-in-Slice.ensures.added c.in_ok-length-in-Slice.ensures.added)
-
-pub children_to_arena-returns-in_ok-length-in-Slice-clause-tree : goal.children_to_arena-returns-in_ok-length-in-Slice-clause-tree
-children_to_arena-returns-in_ok-length-in-Slice-clause-tree t c =
-    let make : Tree → Tree → Tree → Tree = λ x y z. slice x y z in
-    let told : tree c.args.expr.now ≡ make (tree c.in-Slice.input.value) (tree c.in-Slice.offset.value) (tree c.in-Slice.length.value) = ap tree c.in-Slice.is ∙ tree-Slice c.in-Slice.input c.in-Slice.offset c.in-Slice.length in
-    let e : tree c.args.expr.now ≡ make (tree c.deref-in-Slice.result.now) (tree c.deref-in-Slice-2.result.now) (tree c.deref-in-Slice-3.result.now) = cc (told, c.deref-in-Slice.ensures, c.deref-in-Slice-2.ensures, c.deref-in-Slice-3.ensures) in
-    let kept0 = kept {E = PxError} c.to_arena-in-Slice.new.arena c.to_arena-in-Slice-3.new.arena _ c.in_ok-input-in-Slice.input (tree c.deref-in-Slice.result.now) (added_twice c.to_arena-in-Slice.new.arena c.to_arena-in-Slice-2.new.arena c.to_arena-in-Slice-3.new.arena (postorder (tree c.deref-in-Slice-2.result.now)) (postorder (tree c.deref-in-Slice-3.result.now)) c.in_ok-offset-in-Slice.ensures.added c.in_ok-length-in-Slice.ensures.added) c.in_ok-input-in-Slice.ensures.last c.in_ok-input-in-Slice.ensures.tree in
-    let kept1 = kept {E = PxError} c.to_arena-in-Slice-2.new.arena c.to_arena-in-Slice-3.new.arena _ c.in_ok-offset-in-Slice.offset (tree c.deref-in-Slice-2.result.now) c.in_ok-length-in-Slice.ensures.added c.in_ok-offset-in-Slice.ensures.last c.in_ok-offset-in-Slice.ensures.tree in
-    ap Ok (made_of_three make _ _ _ _ _ _ _ e kept0 kept1 c.in_ok-length-in-Slice.ensures.tree)
-
 pub children_to_arena-returns-in_err-expr-in-SortBy-clause-part : goal.children_to_arena-returns-in_err-expr-in-SortBy-clause-part
 children_to_arena-returns-in_err-expr-in-SortBy-clause-part t c =
     let shape = ap tree c.in-SortBy.is ∙ tree-SortBy c.in-SortBy.expr c.in-SortBy.by c.in-SortBy.sort_options in
@@ -275,6 +114,7 @@ all_to_arena-loop-expr-preserved t c =
           rw c.in_ok-push.ensures.items
           (all_below_push _ _ _ (all_below_later _ _ _ (longer _ _ _ i.added) v.below) (last_below {E = PxError} _ _ i.last));
       count = omega (arith, i.count, v.count, seen_rest c.deref-expr-items.result.now c.loop-expr.expr-index c.expr-item.result lt c.expr-item.is);
+      left = omega (arith, v.left, seen_rest c.deref-expr-items.result.now c.loop-expr.expr-index c.expr-item.result lt c.expr-item.is);
     }
 
 pub all_to_arena-returns-clause-added : goal.all_to_arena-returns-clause-added
@@ -284,3 +124,13 @@ all_to_arena-returns-clause-added t c =
 pub all_to_arena-returns-clause-trees : goal.all_to_arena-returns-clause-trees
 all_to_arena-returns-clause-trees t c =
     rw trees_is (grind (arith, common_steps))
+
+pub two_to_arena-returns-in_err-second-clause-part : goal.two_to_arena-returns-in_err-second-clause-part
+two_to_arena-returns-in_err-second-clause-part t c =
+    OnErr-of _ (AddsFront c.args.arena.now (postorder (tree c.args.first.now) ++ postorder (tree c.args.second.now)) c.to_arena-2.new.arena)
+    (AddsFront-after _ _ _ _ _ c.in_ok-first.ensures.added c.in_err-second.ensures.part)
+
+pub three_to_arena-returns-in_err-second-clause-part : goal.three_to_arena-returns-in_err-second-clause-part
+three_to_arena-returns-in_err-second-clause-part t c =
+    OnErr-of _ (AddsFront c.args.arena.now (postorder (tree c.args.first.now) ++ (postorder (tree c.args.second.now) ++ postorder (tree c.args.third.now))) c.two_to_arena.new.arena)
+    (AddsFront-after _ _ _ _ _ c.in_ok-first.ensures.added c.in_err-second.ensures.part)
