@@ -118,13 +118,7 @@ all_below_push n (x ∷ es) e b h =
     let r = all_below_push n es e (and_right (is_below n x) (all_below n es) b) h in
     rw (l, r)
 
--- the tree of a node with two and three children, from theirs
-pub made_of_two : (make : Tree → Tree → Tree) (t x y p q : Tree) → t ≡ make x y → p ≡ x → q ≡ y → t ≡ make p q
-made_of_two make t x y p q e d f = rw (d, f) e
-
-pub made_of_three : (make : Tree → Tree → Tree → Tree) (t x y z p q r : Tree) → t ≡ make x y z → p ≡ x → q ≡ y → r ≡ z → t ≡ make p q r
-made_of_three make t x y z p q r e d f g = rw (d, f, g) e
-
+-- the tree of a node with a list of children, and with an order besides, from theirs
 pub made_with_list : (make : Tree → Trees → Tree) (t x p : Tree) (ys qs : Trees) → t ≡ make x ys → p ≡ x → qs ≡ ys → t ≡ make p qs
 made_with_list make t x p ys qs e d f = rw (d, f) e
 

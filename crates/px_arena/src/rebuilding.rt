@@ -23,11 +23,12 @@ pub fn node_to_expr(alloc: Global, node: Node, arena: &Arena) -> Px<Expr>
         AExpr::Column(name) => Ok(Expr::Column(name.try_clone(alloc)?)),
         AExpr::Literal(value) => Ok(Expr::Literal(value.try_clone(alloc)?)),
         AExpr::Alias(expr, name) => {
-            let name = name.try_clone(alloc)?;
-            Ok(Expr::Alias(share_expr(alloc, *expr, arena)?, name))
+            let expr = share_expr(alloc, *expr, arena)?;
+            Ok(Expr::Alias(expr, name.try_clone(alloc)?))
         }
         AExpr::BinaryExpr { left, op, right } => {
-            let (left, right) = share_two(alloc, *left, *right, arena)?;
+            let left = share_expr(alloc, *left, arena)?;
+            let right = share_expr(alloc, *right, arena)?;
             Ok(Expr::BinaryExpr {
                 left,
                 op: *op,
@@ -39,9 +40,9 @@ pub fn node_to_expr(alloc: Global, node: Node, arena: &Arena) -> Px<Expr>
             truthy,
             falsy,
         } => {
-            let (predicate, truthy, falsy) = share_three(
-                alloc, *predicate, *truthy, *falsy, arena,
-            )?;
+            let predicate = share_expr(alloc, *predicate, arena)?;
+            let truthy = share_expr(alloc, *truthy, arena)?;
+            let falsy = share_expr(alloc, *falsy, arena)?;
             Ok(Expr::Ternary {
                 predicate,
                 truthy,
@@ -53,8 +54,8 @@ pub fn node_to_expr(alloc: Global, node: Node, arena: &Arena) -> Px<Expr>
             dtype,
             options,
         } => {
-            let dtype = dtype.try_clone(alloc)?;
             let expr = share_expr(alloc, *expr, arena)?;
+            let dtype = dtype.try_clone(alloc)?;
             Ok(Expr::Cast {
                 expr,
                 dtype,
@@ -70,7 +71,8 @@ pub fn node_to_expr(alloc: Global, node: Node, arena: &Arena) -> Px<Expr>
         }
         AExpr::Explode(expr) => Ok(Expr::Explode(share_expr(alloc, *expr, arena)?)),
         AExpr::Filter { input, by } => {
-            let (input, by) = share_two(alloc, *input, *by, arena)?;
+            let input = share_expr(alloc, *input, arena)?;
+            let by = share_expr(alloc, *by, arena)?;
             Ok(Expr::Filter { input, by })
         }
         AExpr::Slice {
@@ -78,7 +80,9 @@ pub fn node_to_expr(alloc: Global, node: Node, arena: &Arena) -> Px<Expr>
             offset,
             length,
         } => {
-            let (input, offset, length) = share_three(alloc, *input, *offset, *length, arena)?;
+            let input = share_expr(alloc, *input, arena)?;
+            let offset = share_expr(alloc, *offset, arena)?;
+            let length = share_expr(alloc, *length, arena)?;
             Ok(Expr::Slice {
                 input,
                 offset,
@@ -90,7 +94,8 @@ pub fn node_to_expr(alloc: Global, node: Node, arena: &Arena) -> Px<Expr>
             idx,
             returns_scalar,
         } => {
-            let (expr, idx) = share_two(alloc, *expr, *idx, arena)?;
+            let expr = share_expr(alloc, *expr, arena)?;
+            let idx = share_expr(alloc, *idx, arena)?;
             Ok(Expr::Gather {
                 expr,
                 idx,
@@ -109,9 +114,9 @@ pub fn node_to_expr(alloc: Global, node: Node, arena: &Arena) -> Px<Expr>
             by,
             sort_options,
         } => {
-            let sort_options = sort_options.try_clone(alloc)?;
             let expr = share_expr(alloc, *expr, arena)?;
             let by = nodes_to_exprs(alloc, by, node.0, arena)?;
+            let sort_options = sort_options.try_clone(alloc)?;
             Ok(Expr::SortBy {
                 expr,
                 by,
@@ -146,38 +151,6 @@ fn share_expr(alloc: Global, node: Node, arena: &Arena) -> Px<Rc<Expr>>
 {
     let expr = node_to_expr(alloc, node, arena)?;
     Ok(Rc::new(alloc, expr)?)
-}
-
-#[cycle(node_to_expr)]
-fn share_two(alloc: Global, first: Node, second: Node, arena: &Arena) -> Px<(Rc<Expr>, Rc<Expr>)>
-    requires first { first.0 < length arena.now }
-    requires second { second.0 < length arena.now }
-    ensures first { AnswersBy (λ exprs. tree exprs.0.value) result (Ok (tree_at arena.now first)) }
-    ensures second { AnswersBy (λ exprs. tree exprs.1.value) result (Ok (tree_at arena.now second)) }
-{
-    let first = share_expr(alloc, first, arena)?;
-    let second = share_expr(alloc, second, arena)?;
-    Ok((first, second))
-}
-
-#[cycle(node_to_expr)]
-fn share_three(
-    alloc: Global,
-    first: Node,
-    second: Node,
-    third: Node,
-    arena: &Arena,
-) -> Px<(Rc<Expr>, Rc<Expr>, Rc<Expr>)>
-    requires first { first.0 < length arena.now }
-    requires second { second.0 < length arena.now }
-    requires third { third.0 < length arena.now }
-    ensures first { AnswersBy (λ exprs. tree exprs.0.value) result (Ok (tree_at arena.now first)) }
-    ensures second { AnswersBy (λ exprs. tree exprs.1.value) result (Ok (tree_at arena.now second)) }
-    ensures third { AnswersBy (λ exprs. tree exprs.2.value) result (Ok (tree_at arena.now third)) }
-{
-    let first = share_expr(alloc, first, arena)?;
-    let (second, third) = share_two(alloc, second, third, arena)?;
-    Ok((first, second, third))
 }
 
 // The expressions of nodes that stand before a place.

@@ -1,12 +1,12 @@
 use Rattle.std.proofs.Common.{◌≡◌, ◌<◌, ◌++◌, length, map, Ok, ap, ◌∙◌, arith}
 use Rattle.std.proofs.lemmas.Grind.{common_steps}
 use Rattle.px_value.specs.declared.error.PxError.{PxError}
-use Rattle.px_arena.proofs.Adding.{OnErr-of, AddsFront-more, AddsFront-after, added_twice, added_thrice, kept, kept_all, kept_last, last_below, longer, window_below, made_of_two, made_of_three, made_with_list, made_with_order, all_below_later, all_below_push, postorder-children, seen_postorder, seen_rest, seen_part, more_part, placed}
-use Rattle.px_arena.proofs.Shapes.{tree-BinaryExpr, tree-Ternary, tree-Filter, tree-Slice, tree-Gather, tree-SortBy, tree-Window}
+use Rattle.px_arena.proofs.Adding.{OnErr-of, AddsFront-more, AddsFront-after, added_twice, added_thrice, kept, kept_all, kept_last, last_below, longer, window_below, made_with_list, made_with_order, all_below_later, all_below_push, postorder-children, seen_postorder, seen_rest, seen_part, more_part, placed}
+use Rattle.px_arena.proofs.Shapes.{tree-SortBy, tree-Window}
 use Rattle.px_arena.proofs.Views.{trees_is}
 use Rattle.px_arena.specs.Adding.{AddsFront}
 use Rattle.px_tree.specs.Nodes.{postorder, all_postorder, order_postorder, children_postorder}
-use Rattle.px_tree.specs.Tree.{Tree, Trees, Order, trees_of, binary, ternary, filter, slice, gather, sort_by, window}
+use Rattle.px_tree.specs.Tree.{Tree, Trees, Order, trees_of, sort_by, window}
 use Rattle.px_tree.specs.View.{tree, trees, order_tree, mapping_of}
 use Rattle.px_arena.proofs.lowering.+to_arena.Goals as goal
 
