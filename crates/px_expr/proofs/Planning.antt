@@ -13,7 +13,7 @@ use Rattle.px_tree.specs.Typing.{Scope}
 use Rattle.px_tree.specs.declared.context.Context.{Context}
 use Rattle.px_answers.specs.Planned.{Planned}
 use Rattle.px_expr.specs.Plan.{noted_at, all_noted, plan_at, plans_in, NotesFront}
-use Rattle.px_expr.specs.declared.conversion.ExpressionConversionState.{ExpressionConversionState}
+use Rattle.px_conversion.specs.declared.conversion.ExpressionConversionState.{ExpressionConversionState}
 
 -- some nodes before others, where none of those is refused
 abbrev pub followed_by : List Planned → Result (List Planned) PxError → Result (List Planned) PxError
