@@ -24,7 +24,7 @@ returns c =
     let made : c.in_ok-copy.copy ≡ series_at c.deref.result.now s = told _ _ c.in_ok-copy.ensures in
     let copied : c.in_ok-copy.copy ≡ s = made ∙ (λ i. record s { slots = (ap (slots_at s.slots) rows ∙ all_slots s.slots) i }) in
     let named : c.in_ok-try_clone-2.field-0 ≡ c.args.key.now = told _ _ c.in_ok-try_clone-2.ensures in
-    let is : c.with_name-2.result ≡ record s { name = c.args.key.now } = c.with_name-2.ensures ∙ (λ i. record (copied i) { name = named i }) in
+    let is : c.with_name.result ≡ record s { name = c.args.key.now } = c.with_name.ensures ∙ (λ i. record (copied i) { name = named i }) in
     (key_passes c.args.frame.now c.args.key.now s c.in-Some.ensures.found (ap is_list_kind (sym c.dtype.ensures) ∙ sym c.is_list.ensures ∙ c.if-is_list.false), key_found c.args.frame.now c.args.key.now s c.in-Some.ensures.found c.in-Some.ensures.height ∙ ap Some (sym is))
 
 pub returns-in_default : goal.returns-in_default

@@ -12,4 +12,4 @@ returns c =
     let kind : kind_of c.in_ok-try_clone-2.field-0 ≡ s.kind = told _ _ c.in_ok-try_clone-2.ensures ∙ c.dtype.ensures in
     let same : slots_of c.in_ok-values.values.items ≡ s.slots = told _ _ c.in_ok-values.ensures.values in
     let fit : slots_fit s.kind s.slots ≡ true = subst (λ (xs : List Slot). slots_fit s.kind xs ≡ true) same c.in_ok-values.ensures.fit in
-    subst (Answers c.from_values-2.result) (made_as s _ _ _ name kind same fit) c.from_values-2.ensures
+    subst (Answers c.from_values.result) (made_as s _ _ _ name kind same fit) c.from_values.ensures
