@@ -3,3 +3,4 @@ pub mod Growing
 pub mod Windows
 pub mod Counting
 pub mod NullLaws
+pub mod CopyLaws

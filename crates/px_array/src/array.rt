@@ -8,6 +8,7 @@ ghost use Rattle.px_value.specs.LentView.{slot_of_ref};
 ghost use Rattle.px_value.specs.Series.{slot_at};
 ghost use Rattle.px_value.specs.View.{slot_of};
 
+use crate::copying::copy_place;
 use crate::filling::lane_at;
 use crate::lanes::Store;
 use crate::rows::Rows;
@@ -147,6 +148,15 @@ impl Array {
         ensures fits { slot_fits self.now.kind (slot_of_ref result) ≡ true }
     {
         place_at(&self.inner, self.first as usize + index as usize)
+    }
+
+    /// A copy of the value at a place, `None` where it is a null; it shares a text of more than 16 bytes.
+    pub fn copy(&self, alloc: Global, index: u32) -> Px<Option<Value>>
+        requires { index < length self.now.slots }
+        ensures value { AnswersBy slot_of result (Ok (slot_at self.now.slots index)) }
+        ensures fits { IfOk result (λ s. slot_fits self.now.kind (slot_of s) ≡ true) }
+    {
+        copy_place(alloc, &self.inner, self.first as usize + index as usize)
     }
 
     /// The places in order, lent.

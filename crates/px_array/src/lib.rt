@@ -3,6 +3,7 @@
 
 mod array;
 mod builder;
+mod copying;
 mod filling;
 mod integers;
 mod lanes;

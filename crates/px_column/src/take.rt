@@ -1,13 +1,14 @@
 //! Rows of a column by their numbers.
-ghost use Rattle.std.specs.Prelude.{◌≡◌, ◌<◌, ◌^◌, length, true};
-ghost use Rattle.px_value.specs.Answer.{Answers};
+ghost use Rattle.std.specs.Prelude.{◌≡◌, ◌<◌, ◌^◌, IfOk, Ok, length, map, true};
+ghost use Rattle.px_value.specs.Answer.{Answers, AnswersBy};
 ghost use Rattle.px_value.specs.Kind.{slot_fits};
 ghost use Rattle.px_value.specs.LentView.{slot_of_ref};
+ghost use Rattle.px_value.specs.View.{slot_of};
 ghost use Rattle.px_column.specs.Column.{taken, taken_at, all_within};
 
 use crate::builder::ColumnBuilder;
 use crate::column::Column;
-use px_value::{Px, PxError, ValueRef};
+use px_value::{DataType, Px, PxError, Value, ValueRef};
 use std::alloc::Global;
 
 fn are_within(len: u32, indices: &[Option<u32>]) -> bool
@@ -32,8 +33,45 @@ impl Column {
         self.get_or_null(index?)
     }
 
-    /// These rows in this order, of which there are fewer than 2^32, with a null for each `None`;
-    /// `OutOfBounds` where an index is not below the length (polars `take`).
+    /// A copy of the value at an asked row, nothing where none is asked for; it shares a text of more
+    /// than 16 bytes.
+    fn copy_asked(&self, alloc: Global, index: Option<u32>) -> Px<Option<Value>>
+        ensures value { AnswersBy slot_of result (Ok (taken_at self.now.slots index)) }
+        ensures fits { IfOk result (λ s. slot_fits self.now.kind (slot_of s) ≡ true) }
+    {
+        match index {
+            Some(index) if index < self.len() => self.array.copy(alloc, index),
+            _ => Ok(None),
+        }
+    }
+
+    /// These rows of a column of texts.
+    fn take_texts(&self, alloc: Global, indices: &[Option<u32>]) -> Px<Column>
+        requires { length indices.now < 2 ^ 32 }
+        ensures { Answers result (Ok (record self.now { slots = map (taken_at self.now.slots) indices.now })) }
+    {
+        let mut rows = self.builder(alloc, indices.len() as u32)?;
+        for index in indices {
+            rows.push(self.copy_asked(alloc, *index)?)?;
+        }
+        rows.finish()
+    }
+
+    /// These rows of a column of any type.
+    fn take_any(&self, alloc: Global, indices: &[Option<u32>]) -> Px<Column>
+        requires { length indices.now < 2 ^ 32 }
+        ensures { Answers result (Ok (record self.now { slots = map (taken_at self.now.slots) indices.now })) }
+    {
+        let mut rows = self.builder(alloc, indices.len() as u32)?;
+        for index in indices {
+            rows.push_ref(self.get_asked(*index))?;
+        }
+        rows.finish()
+    }
+
+    /// These rows in this order, of which there are fewer than 2^32, with a null for each `None`; texts
+    /// of more than 16 bytes are shared. `OutOfBounds` where an index is not below the length (polars
+    /// `take`).
     pub fn take(&self, alloc: Global, indices: &[Option<u32>]) -> Px<Column>
         requires { length indices.now < 2 ^ 32 }
         ensures { Answers result (taken self.now indices.now) }
@@ -41,10 +79,9 @@ impl Column {
         if !are_within(self.len(), indices) {
             return Err(PxError::OutOfBounds);
         }
-        let mut rows = self.builder(alloc, indices.len() as u32)?;
-        for index in indices {
-            rows.push_ref(self.get_asked(*index))?;
+        match self.dtype() {
+            DataType::String => self.take_texts(alloc, indices),
+            _ => self.take_any(alloc, indices),
         }
-        rows.finish()
     }
 }
