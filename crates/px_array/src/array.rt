@@ -150,7 +150,8 @@ impl Array {
         place_at(&self.inner, self.first as usize + index as usize)
     }
 
-    /// A copy of the value at a place, `None` where it is a null; it shares a text of more than 16 bytes.
+    /// A copy of the value at a place, `None` where it is a null; it shares more than 16 bytes of a text or
+    /// of a string of bytes.
     pub fn copy(&self, alloc: Global, index: u32) -> Px<Option<Value>>
         requires { index < length self.now.slots }
         ensures value { AnswersBy slot_of result (Ok (slot_at self.now.slots index)) }

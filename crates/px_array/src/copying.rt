@@ -1,4 +1,4 @@
-//! Copies of single places, which share a text of more than 16 bytes.
+//! Copies of single places, which share more than 16 bytes of a text or of a string of bytes.
 ghost use Rattle.std.specs.Prelude.{◌≡◌, ◌+◌, ◌*◌, ◌<◌, Ok, length};
 ghost use Rattle.px_array.specs.Inside.{Covers, inner_slot};
 ghost use Rattle.px_array.specs.Lanes.{Reaches, lane_slot};
@@ -18,14 +18,12 @@ fn copy_lane(alloc: Global, lanes: &Lanes, valid: &[u64], i: usize) -> Px<Option
     requires valid { i < 64 * length valid.now }
     ensures { AnswersBy slot_of result (Ok (lane_slot lanes.now valid.now i)) }
 {
+    if !bit(valid, i) {
+        return Ok(None);
+    }
     match lanes {
-        Lanes::Texts(v) => {
-            if bit(valid, i) {
-                Ok(Some(Value::Text(v[i].try_clone(alloc)?)))
-            } else {
-                Ok(None)
-            }
-        }
+        Lanes::Texts(v) => Ok(Some(Value::Text(v[i].try_clone(alloc)?))),
+        Lanes::Bytes(v) => Ok(Some(Value::Bytes(v[i].try_clone(alloc)?))),
         _ => copy_slot(alloc, lane_at(lanes, valid, i)),
     }
 }

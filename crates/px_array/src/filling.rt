@@ -98,13 +98,14 @@ fn into_text(alloc: Global, slot: Option<Value>) -> Px<Name>
 }
 
 /// The bytes of a place, none where it is a null.
-fn into_bytes(alloc: Global, slot: Option<Value>) -> ByteString
+fn into_bytes(alloc: Global, slot: Option<Value>) -> Px<ByteString>
     requires { slot_fits binaries (slot_of slot) ≡ true }
-    ensures { IsNullOr (slot_of slot) (bytes result) }
+    ensures answer { AnswersBy (λ _. tt {0}) result (Ok (tt {0})) }
+    ensures value { IfOk result (λ s. IsNullOr (slot_of slot) (bytes s)) }
 {
     match slot {
-        Some(Value::Bytes(bytes)) => bytes,
-        _ => ByteString::from_vec(Vec::new(alloc)),
+        Some(Value::Bytes(bytes)) => Ok(bytes),
+        _ => ByteString::from_slice(alloc, b""),
     }
 }
 
@@ -140,7 +141,7 @@ pub(crate) fn add(
 {
     match lanes {
         Lanes::Texts(v) => v.push(into_text(alloc, slot)?)?,
-        Lanes::Bytes(v) => v.push(into_bytes(alloc, slot))?,
+        Lanes::Bytes(v) => v.push(into_bytes(alloc, slot)?)?,
         Lanes::Lists(v) => v.push(into_list(alloc, dtype, slot))?,
         _ => add_ref(alloc, lanes, dtype, len, lend(&slot))?,
     }

@@ -111,7 +111,7 @@ pub(crate) fn bytes_of(alloc: Global, slot: Option<ValueRef<'_>>) -> Px<ByteStri
 {
     match slot {
         Some(ValueRef::Bytes(s)) => ByteString::from_slice(alloc, s),
-        _ => Ok(ByteString::from_vec(Vec::new(alloc))),
+        _ => ByteString::from_slice(alloc, b""),
     }
 }
 

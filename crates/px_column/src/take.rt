@@ -33,8 +33,8 @@ impl Column {
         self.get_or_null(index?)
     }
 
-    /// A copy of the value at an asked row, nothing where none is asked for; it shares a text of more
-    /// than 16 bytes.
+    /// A copy of the value at an asked row, nothing where none is asked for; it shares more
+    /// than 16 bytes of a text or of a string of bytes.
     fn copy_asked(&self, alloc: Global, index: Option<u32>) -> Px<Option<Value>>
         ensures value { AnswersBy slot_of result (Ok (taken_at self.now.slots index)) }
         ensures fits { IfOk result (λ s. slot_fits self.now.kind (slot_of s) ≡ true) }
@@ -45,8 +45,8 @@ impl Column {
         }
     }
 
-    /// These rows of a column of texts.
-    fn take_texts(&self, alloc: Global, indices: &[Option<u32>]) -> Px<Column>
+    /// These rows, as copies that share long texts and strings of bytes.
+    fn take_copies(&self, alloc: Global, indices: &[Option<u32>]) -> Px<Column>
         requires { length indices.now < 2 ^ 32 }
         ensures { Answers result (Ok (record self.now { slots = map (taken_at self.now.slots) indices.now })) }
     {
@@ -57,7 +57,7 @@ impl Column {
         rows.finish()
     }
 
-    /// These rows of a column of any type.
+    /// These rows, copied as they are lent.
     fn take_any(&self, alloc: Global, indices: &[Option<u32>]) -> Px<Column>
         requires { length indices.now < 2 ^ 32 }
         ensures { Answers result (Ok (record self.now { slots = map (taken_at self.now.slots) indices.now })) }
@@ -70,7 +70,7 @@ impl Column {
     }
 
     /// These rows in this order, of which there are fewer than 2^32, with a null for each `None`; texts
-    /// of more than 16 bytes are shared. `OutOfBounds` where an index is not below the length (polars
+    /// and strings of more than 16 bytes are shared. `OutOfBounds` where an index is not below the length (polars
     /// `take`).
     pub fn take(&self, alloc: Global, indices: &[Option<u32>]) -> Px<Column>
         requires { length indices.now < 2 ^ 32 }
@@ -80,7 +80,7 @@ impl Column {
             return Err(PxError::OutOfBounds);
         }
         match self.dtype() {
-            DataType::String => self.take_texts(alloc, indices),
+            DataType::String | DataType::Binary => self.take_copies(alloc, indices),
             _ => self.take_any(alloc, indices),
         }
     }

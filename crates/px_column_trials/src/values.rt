@@ -11,7 +11,9 @@ fn copy_of_name(alloc: Global, text: &str) -> Px<Name> {
 }
 
 fn are_bytes_kept(alloc: Global, bytes: &[u8]) -> Px<bool> {
-    Ok(ByteString::from_slice(alloc, bytes)?.as_slice() == bytes)
+    let string = ByteString::from_slice(alloc, bytes)?;
+    let copy = string.try_clone(alloc)?;
+    Ok(string.as_slice() == bytes && copy.as_slice() == bytes)
 }
 
 #[test]
@@ -26,5 +28,6 @@ fn names_and_bytes_are_copied(rt: HostRuntime) -> Result<(), Fail> {
         )?
     );
     assert!(rt; are_bytes_kept(alloc, &[104, 105])?);
+    assert!(rt; are_bytes_kept(alloc, b"seventeen bytes -")?);
     Ok(())
 }

@@ -11,7 +11,7 @@ ghost use Rattle.px_group_answers.specs.Leaf.{group_literal_column};
 use crate::physical::{PhysicalExpr, expression_field};
 use crate::range::range_column;
 use indexmap::IndexSet;
-use px_column::{ByteString, Column, DataType, Name, Px, PxError, Steps, Value};
+use px_column::{Column, DataType, Name, Px, PxError, Steps, Value};
 use px_context::{AggregationContext, ColRef, GroupsRef};
 use px_frame::{DataFrame, Field, GroupPositions, Schema};
 use px_plan::{Expr, LiteralValue};
@@ -47,8 +47,11 @@ fn kept_column(alloc: Global, value: &LiteralValue) -> Px<Option<Column>>
             one_row(alloc, DataType::String, Value::Text(text.try_clone(alloc)?))
         }
         LiteralValue::Binary(bytes) => {
-            let bytes = ByteString::from_slice(alloc, bytes.as_slice())?;
-            one_row(alloc, DataType::Binary, Value::Bytes(bytes))
+            one_row(
+                alloc,
+                DataType::Binary,
+                Value::Bytes(bytes.try_clone(alloc)?),
+            )
         }
         LiteralValue::Null => {
             let name = Name::new(alloc, "literal")?;

@@ -74,7 +74,7 @@ fn columns_text(alloc: Global, columns: &[Column], height: u32) -> Px<ByteString
     push_names(&mut out, columns)?;
     push_types(&mut out, columns)?;
     push_rows(&mut out, columns, height)?;
-    Ok(ByteString::from_vec(out))
+    ByteString::from_vec(out)
 }
 
 /// The text of a frame: a line of its names, a line of its types and a line for each row, each a JSON

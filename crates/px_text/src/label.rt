@@ -87,5 +87,5 @@ pub fn error_line(alloc: Global, fault: &PxError) -> Px<ByteString>
     let mut out = Vec::from_slice(alloc, b"error: ")?;
     push_label(&mut out, fault)?;
     out.push(b'\n')?;
-    Ok(ByteString::from_vec(out))
+    ByteString::from_vec(out)
 }

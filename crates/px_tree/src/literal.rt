@@ -100,10 +100,7 @@ impl LiteralValue {
             LiteralValue::UInt32(n) => Ok(LiteralValue::UInt32(*n)),
             LiteralValue::UInt64(n) => Ok(LiteralValue::UInt64(*n)),
             LiteralValue::String(text) => Ok(LiteralValue::String(text.try_clone(alloc)?)),
-            LiteralValue::Binary(bytes) => Ok(LiteralValue::Binary(ByteString::from_slice(
-                alloc,
-                bytes.as_slice(),
-            )?)),
+            LiteralValue::Binary(bytes) => Ok(LiteralValue::Binary(bytes.try_clone(alloc)?)),
             LiteralValue::Null => Ok(LiteralValue::Null),
             LiteralValue::Range { low, high, dtype } => {
                 let dtype = dtype.try_clone(alloc)?;

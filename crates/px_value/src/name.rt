@@ -3,12 +3,12 @@ ghost use Rattle.std.specs.Prelude.{◌≡◌};
 ghost use Rattle.px_value.specs.Answer.{Answers};
 
 use crate::error::Px;
-use arrayvec::ArrayString;
+use arrayvec::{ArrayString, ArrayVec};
 use std::alloc::Global;
 use std::fmt;
 use std::hash::{Hash, Hasher};
 use std::marker::Model;
-use std::rc::RcStr;
+use std::rc::{RcSlice, RcStr};
 
 /// A text of up to 16 bytes in place, or a longer one that copies share.
 #[derive(Drop)]
@@ -135,44 +135,83 @@ impl Hash for Name {
     }
 }
 
-/// A string of bytes; seen as their list.
+/// Up to 16 bytes in place, or more of them that copies share.
 #[derive(Drop)]
+enum Bytes {
+    InPlace(ArrayVec<u8, 16>),
+    Shared(RcSlice<u8>),
+}
+
+/// A string of bytes; seen as their list. Up to 16 bytes stand in place and take no allocation; copies
+/// of a longer string share its bytes.
 pub struct ByteString {
-    bytes: Vec<u8>,
+    bytes: Bytes,
+}
+
+/// One call where a string is let go, so that proofs see no more of what is inside.
+impl Drop for ByteString {
+    fn drop(self) {
+        let ByteString { bytes: _bytes } = self;
+    }
 }
 
 impl Model for ByteString {
     ghost use Rattle.std.specs.Prelude.{List, ℕ};
+    ghost use Rattle.std.specs.Coded.{coded_list, coded_ℕ};
 
     ghost Value = { List ℕ };
 
-    ghost view = { λ b. b.bytes.items };
+    ghost coded = { coded_list coded_ℕ };
+
+    ghost use Rattle.px_value.specs.Text.{string_bytes};
+
+    ghost view = { λ b. string_bytes b.bytes };
 }
 
 impl ByteString {
     ghost use Rattle.std.specs.Prelude.{Ok};
 
     /// These bytes, with no copy.
-    pub fn from_vec(bytes: Vec<u8>) -> ByteString
-        ensures { result ≡ bytes.items }
+    pub fn from_vec(bytes: Vec<u8>) -> Px<ByteString>
+        ensures { Answers result (Ok bytes.items) }
     {
-        ByteString { bytes }
+        let bytes = Bytes::Shared(RcSlice::from_vec(bytes)?);
+        Ok(ByteString { bytes })
     }
 
-    /// The bytes, copied.
+    /// The bytes, copied. At most 16 of them take no allocation.
     pub fn from_slice(alloc: Global, bytes: &[u8]) -> Px<ByteString>
         ensures { Answers result (Ok bytes.now) }
     {
-        Ok(ByteString {
-            bytes: Vec::from_slice(alloc, bytes)?,
-        })
+        let mut short = ArrayVec::new();
+        let bytes = match short.try_extend_from_slice(bytes) {
+            Ok(()) => Bytes::InPlace(short),
+            Err(_) => Bytes::Shared(RcSlice::from_slice(alloc, bytes)?),
+        };
+        Ok(ByteString { bytes })
     }
 
     /// The bytes, lent.
     pub fn as_slice(&self) -> &[u8]
         ensures { result.now ≡ self.now }
     {
-        self.bytes.as_slice()
+        match &self.bytes {
+            Bytes::InPlace(bytes) => bytes.as_slice(),
+            Bytes::Shared(bytes) => bytes.as_slice(),
+        }
+    }
+
+    /// An equal string, which shares more than 16 bytes and takes no allocation.
+    pub fn try_clone(&self, alloc: Global) -> Px<ByteString>
+        ensures { Answers result (Ok self.now) }
+    {
+        match &self.bytes {
+            Bytes::InPlace(bytes) => ByteString::from_slice(alloc, bytes.as_slice()),
+            Bytes::Shared(bytes) => {
+                let bytes = Bytes::Shared(bytes.clone()?);
+                Ok(ByteString { bytes })
+            }
+        }
     }
 }
 

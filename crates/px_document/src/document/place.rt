@@ -28,7 +28,7 @@ fn read_bytes(alloc: Global, value: &Value) -> Result<ByteString, DocumentFault>
 {
     let text = value.as_str().ok_or(DocumentFault::BadDocument)?;
     let bytes = read_hexadecimal(alloc, text.as_bytes())?;
-    Ok(ByteString::from_vec(bytes))
+    Ok(ByteString::from_vec(bytes)?)
 }
 
 fn short_list(places: Vec<Option<Datum>>) -> Result<Datum, DocumentFault>
