@@ -1,5 +1,5 @@
 -- Data that is read token by token: items of an array, and members of an object.
-use Rattle.std.proofs.Common.{◌≡◌, ℕ, ◌-◌, ◌<◌, ◌≤◌, List, [], ◌∷◌, ◌++◌, length, Option, Some, None, option_map, option_and_then, refl, sym, ap, ◌∙◌, arith, append-nil, append_assoc}
+use Rattle.std.proofs.Common.{◌≡◌, ℕ, ◌-◌, ◌<◌, ◌≤◌, List, [], ◌∷◌, ◌++◌, length, Option, Some, None, option_map, option_and_then, refl, sym, ap, subst, ◌∙◌, arith, append-nil, append_assoc}
 use Rattle.json.specs.Token as token
 use Rattle.json.specs.Token.{Token}
 use Rattle.json.specs.Json as json
@@ -10,6 +10,8 @@ use Rattle.json.proofs.Grammar.{items_end, items_more, left, members_end, member
 use Rattle.serde_json.specs.Data.{Data, array, object, Items, item, Members, no_members, put}
 use Rattle.serde_json.specs.Read.{converted, of_items, of_json, of_members, read}
 use Rattle.px_value.specs.Option.{each}
+use Rattle.px_column.specs.Prelude.{Kind, Series, Slot}
+use Rattle.px_document.specs.Document.{fitting_place}
 use Rattle.px_document.specs.Form.{listed}
 use Rattle.px_document.specs.Tokens.{first_data, items_made, token_data}
 
@@ -42,6 +44,10 @@ made_of_token {B} f depth t r y e = by (token_data t) refl e
     by : (o : Option Data) → token_data t ≡ o → option_and_then f o ≡ Some y → converted f (first_data depth (t ∷ r)) ≡ Some (y, r)
     by None is h = absurd (cc)
     by (Some d) is h = ap (converted f) (first_token depth t r d is) ∙ ap (option_map {U = B × List Token} (λ x. (x, r))) h
+
+-- what a token says in the type of a column's rows
+pub row_taken : (c : Series) (k : Kind) (t : Token) (r : List Token) (s : Slot) → c.kind ≡ k → option_and_then (fitting_place c.kind) (token_data t) ≡ Some s → converted (fitting_place k) (first_data 123 (t ∷ r)) ≡ Some (s, r)
+row_taken c k t r s same e = made_of_token (fitting_place k) 123 t r s (subst (λ (x : Kind). option_and_then (fitting_place x) (token_data t) ≡ Some s) same e)
 
 -- ---- the items of an array
 

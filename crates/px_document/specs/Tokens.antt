@@ -1,5 +1,5 @@
 -- The data that stands first among the tokens of a text.
-use Rattle.std.specs.Prelude.{◌≡◌, ℕ, true, List, Option, Some, None, length, option_and_then, option_map, codes, ◌∷◌, ◌^◌, ◌<◌}
+use Rattle.std.specs.Prelude.{◌≡◌, ℕ, true, List, Option, Some, None, length, option_and_then, option_map, codes, [], ◌∷◌, ◌++◌, ◌^◌, ◌<◌}
 use Rattle.json.specs.Token as token
 use Rattle.json.specs.Token.{Token}
 use Rattle.json.specs.Json.{if_last, items, value}
@@ -29,6 +29,14 @@ token_data _ = None
 -- the token says this place in each type that the place fits
 abbrev pub IsPlaceOf : Token → Slot → Type 0
 IsPlaceOf t s = (k : Kind) → slot_fits k s ≡ true → option_and_then (fitting_place k) (token_data t) ≡ Some s
+
+-- one row more, which fits the type of the rows
+abbrev pub IsPushed : Slot → Series → Series → Type 0
+IsPushed s old new = (slot_fits old.kind s ≡ true) × (new ≡ record old { slots = old.slots ++ s ∷ [] })
+
+-- one row more: what the token says in the type of the rows
+abbrev pub IsRowOf : Token → Series → Series → Type 0
+IsRowOf t old new = (s : Slot) × (option_and_then (fitting_place old.kind) (token_data t) ≡ Some s) × (new ≡ record old { slots = old.slots ++ s ∷ [] })
 
 -- the column of this name and type has the places that are said up to the end of an array
 abbrev pub IsRowsOf : List ℕ → Kind → Series → List Token → List Token → Type 0

@@ -23,6 +23,7 @@ mod options;
 mod parsed;
 mod place;
 mod reduction;
+mod row;
 mod row_wise;
 mod selection;
 mod step;

@@ -19,6 +19,7 @@ fn push_digit(out: &mut Vec<u8>, digit: u8) -> Result<(), AllocError>
     Ok(())
 }
 
+#[inline(always)]
 fn push_digits(out: &mut Vec<u8>, value: i128) -> Result<(), AllocError>
     ensures { OnOk result (out.new.items ≡ out.old.items ++ signed_decimal value) }
 {

@@ -131,6 +131,7 @@ pub fn copy_slots(alloc: Global, rows: &[Option<Value>]) -> Px<Vec<Option<Value>
 
 /// Whether a value fits a type.
 #[cycle(fits)]
+#[inline(always)]
 fn value_fits(kind: &DataType, value: ValueRef<'_>) -> bool
     ensures { result ≡ fits (kind_of kind.now) (datum_of_ref value.entry) }
 {
@@ -167,6 +168,7 @@ fn all_fit(kind: &DataType, values: &Values) -> bool
 
 /// Whether a place fits a type: a null fits each.
 #[cycle(fits)]
+#[inline(always)]
 pub fn slot_fits(kind: &DataType, slot: Option<ValueRef<'_>>) -> bool
     ensures { result ≡ slot_fits (kind_of kind.now) (slot_of_ref slot.entry) }
 {

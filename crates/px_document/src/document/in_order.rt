@@ -5,8 +5,8 @@ ghost use Rattle.std.specs.Prelude.{◌≡◌, ℕ, List, IfSome, IsTrue, Ok, So
 ghost use Rattle.json.specs.Json.{after_end_array};
 ghost use Rattle.serde_json.specs.Read.{converted, read};
 ghost use Rattle.serde_json.specs.View.{view};
-ghost use Rattle.px_column.specs.Prelude.{kind_of, slot_fits, slot_of_ref};
-ghost use Rattle.px_document.specs.Document.{column_of, doc_view, fitting_place, kind_named};
+ghost use Rattle.px_column.specs.Prelude.{kind_of};
+ghost use Rattle.px_document.specs.Document.{column_of, doc_view, kind_named};
 ghost use Rattle.px_document.specs.Form.{IfRead};
 ghost use Rattle.px_document.specs.StepForm.{any_document_of, steps_of};
 ghost use Rattle.px_document.specs.Tokens.{IsRowsOf, column_head, document_head, first_data, items_made, only_data};
@@ -15,25 +15,17 @@ ghost use Rattle.px_tree.specs.Step.{step_view};
 use crate::document::fault::DocumentFault;
 use crate::document::fields::items;
 use crate::document::parsed::Parsed;
+use crate::document::row::push_token;
 use crate::document::step::read_steps;
 use crate::document::tokens::{
-    fitting_place, take_begin_array, take_begin_object, take_end_object, take_key, take_text,
+    take_begin_array, take_begin_object, take_end_object, take_key, take_text,
 };
 use crate::document::type_name::read_type_name;
 use json::{Reader, Scratch};
-use px_column::{Column, ColumnBuilder, DataType, Name, ValueRef};
+use px_column::{Column, ColumnBuilder, DataType, Name};
 use px_tree::Step;
 use serde_json::Value;
 use std::alloc::Global;
-
-/// The place that the next token says, if it fits the type.
-#[tactic(auto, using(crate::proofs::Tokens::made_of_token))]
-fn next_place<'t>(dtype: &DataType, reader: &mut Reader<'t>) -> Option<Option<ValueRef<'t>>>
-    ensures place { IfSome result (λ s. converted (fitting_place (kind_of dtype.now)) (first_data 123 reader.old) ≡ Some (slot_of_ref s, reader.new)) }
-    ensures fits { IfSome result (λ s. slot_fits (kind_of dtype.now) (slot_of_ref s) ≡ true) }
-{
-    fitting_place(dtype, reader.next()?)
-}
 
 /// The rows up to the end of an array, as a column of this name and type.
 #[tactic(auto, using(crate::proofs::Tokens::follows_start, crate::proofs::Tokens::follows_next, crate::proofs::Tokens::follows_end))]
@@ -50,10 +42,12 @@ fn read_rows(
         if reader.take_end_array() {
             return Ok(Some(rows.finish()?));
         }
-        let Some(slot) = next_place(dtype, reader) else {
+        let Some(token) = reader.next() else {
             return Ok(None);
         };
-        rows.push_ref(slot)?;
+        let Some(()) = push_token(&mut rows, dtype, token)? else {
+            return Ok(None);
+        };
     }
     Ok(None)
 }

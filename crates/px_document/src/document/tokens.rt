@@ -4,14 +4,12 @@ ghost use Rattle.json.specs.Token.{begin_array, begin_object, end_object, key, s
 ghost use Rattle.serde_json.specs.Find.{as_integer};
 ghost use Rattle.serde_json.specs.Read.{number_of};
 ghost use Rattle.json.specs.Reads.{token_of};
-ghost use Rattle.px_column.specs.Prelude.{kind_of, slot_fits, slot_of_ref};
-ghost use Rattle.px_document.specs.Document.{fitting_place};
-ghost use Rattle.px_document.specs.Tokens.{IsPlaceOf, token_data};
+ghost use Rattle.px_column.specs.Prelude.{slot_of_ref};
+ghost use Rattle.px_document.specs.Tokens.{IsPlaceOf};
 
 use fast_float::Numeral;
 use json::{Reader, Token};
-use px_column::{DataType, ValueRef};
-use px_value::slot_fits;
+use px_column::ValueRef;
 
 /// Takes the next token, and tells whether it opens an object.
 pub(crate) fn take_begin_object(reader: &mut Reader<'_>) -> bool
@@ -81,7 +79,7 @@ pub(crate) fn integer_at(text: &str) -> Option<i128>
 
 /// The place of a column that a token says by itself: a null, a truth, a text or an integer.
 #[tactic(auto, using(crate::proofs::Places::null_fits, crate::proofs::Places::boolean_fits, crate::proofs::Places::text_fits, crate::proofs::Places::number_fits))]
-fn token_place<'t>(token: Token<'t>) -> Option<Option<ValueRef<'t>>>
+pub(crate) fn token_place<'t>(token: Token<'t>) -> Option<Option<ValueRef<'t>>>
     ensures { IfSome result (λ s. IsPlaceOf (token_of token.entry) (slot_of_ref s)) }
 {
     match token {
@@ -90,18 +88,5 @@ fn token_place<'t>(token: Token<'t>) -> Option<Option<ValueRef<'t>>>
         Token::String(text) => Some(Some(ValueRef::Text(text))),
         Token::Number(text) => Some(Some(ValueRef::Int(integer_at(text)?))),
         _ => None,
-    }
-}
-
-/// The place that a token says by itself, if it fits the type.
-pub(crate) fn fitting_place<'t>(dtype: &DataType, token: Token<'t>) -> Option<Option<ValueRef<'t>>>
-    ensures place { IfSome result (λ s. option_and_then (fitting_place (kind_of dtype.now)) (token_data (token_of token.entry)) ≡ Some (slot_of_ref s)) }
-    ensures fits { IfSome result (λ s. slot_fits (kind_of dtype.now) (slot_of_ref s) ≡ true) }
-{
-    let slot = token_place(token)?;
-    if slot_fits(dtype, slot) {
-        Some(slot)
-    } else {
-        None
     }
 }
