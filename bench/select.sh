@@ -1,14 +1,14 @@
 #!/usr/bin/env bash
 # Prints a Markdown table of px and jq on a select step of ten columns and two literals, each at its best of three.
-# bench/select.sh [ROWS] : PX, where it is set, is the full path of an executable to measure in place of the one that ./px builds.
+# bench/select.sh [ROWS] [DIGITS] : each integer has so many digits; PX, where it is set, is the full path of an executable to measure in place of the one that ./px builds.
 set -eu
 export LC_ALL=C
 cd "$(dirname "$0")/.."
-rows=${1:-1000000}
+rows=${1:-1000000} digits=${2:-1}
 . bench/prepare.sh
 
-python3 bench/make_select.py "$rows" > "$work/document"
-echo "$rows rows, $(wc -c < "$work/document") bytes"
+python3 bench/make_select.py "$rows" "$digits" > "$work/document"
+echo "$rows rows, integers of $digits digits, $(wc -c < "$work/document") bytes"
 echo
 echo "| tool | wall seconds | peak memory, MB | rows |"
 echo "|---|--:|--:|---|"
