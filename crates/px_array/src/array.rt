@@ -8,11 +8,11 @@ ghost use Rattle.px_value.specs.LentView.{slot_of_ref};
 ghost use Rattle.px_value.specs.Series.{slot_at};
 ghost use Rattle.px_value.specs.View.{slot_of};
 
-use crate::copying::copy_place;
+use crate::copying::{copy_constant, copy_place};
 use crate::filling::lane_at;
 use crate::lanes::Store;
 use crate::rows::Rows;
-use px_value::{DataType, Px, Value, ValueRef, Values, copy_slot, lend};
+use px_value::{DataType, Px, Value, ValueRef, Values, lend};
 use std::alloc::Global;
 use std::marker::Model;
 use std::rc::Rc;
@@ -46,7 +46,7 @@ pub(crate) fn share(alloc: Global, inner: &Inner) -> Px<Inner>
 {
     match inner {
         Inner::Shared(store) => Ok(Inner::Shared(store.clone()?)),
-        Inner::Constant(slot) => Ok(Inner::Constant(copy_slot(alloc, lend(slot))?)),
+        Inner::Constant(slot) => Ok(Inner::Constant(copy_constant(alloc, slot)?)),
         Inner::SameList(values) => Ok(Inner::SameList(values.clone()?)),
     }
 }

@@ -9,7 +9,7 @@ use crate::array::{Inner, place_at};
 use crate::filling::lane_at;
 use crate::lanes::Lanes;
 use crate::words::bit;
-use px_value::{Px, Value, copy_slot};
+use px_value::{Px, Value, copy_slot, lend};
 use std::alloc::Global;
 
 /// A copy of what stands at a place of some values.
@@ -28,6 +28,17 @@ fn copy_lane(alloc: Global, lanes: &Lanes, valid: &[u64], i: usize) -> Px<Option
     }
 }
 
+/// A copy of the value that stands at all places.
+pub(crate) fn copy_constant(alloc: Global, slot: &Option<Value>) -> Px<Option<Value>>
+    ensures { AnswersBy slot_of result (Ok (slot_of slot.now)) }
+{
+    match slot {
+        Some(Value::Text(text)) => Ok(Some(Value::Text(text.try_clone(alloc)?))),
+        Some(Value::Bytes(bytes)) => Ok(Some(Value::Bytes(bytes.try_clone(alloc)?))),
+        _ => copy_slot(alloc, lend(slot)),
+    }
+}
+
 /// A copy of what stands at a place.
 pub(crate) fn copy_place(alloc: Global, inner: &Inner, i: usize) -> Px<Option<Value>>
     requires { Covers inner.now (i + 1) }
@@ -35,6 +46,7 @@ pub(crate) fn copy_place(alloc: Global, inner: &Inner, i: usize) -> Px<Option<Va
 {
     match inner {
         Inner::Shared(store) => copy_lane(alloc, &store.lanes, &store.valid, i),
+        Inner::Constant(slot) => copy_constant(alloc, slot),
         _ => copy_slot(alloc, place_at(inner, i)),
     }
 }
