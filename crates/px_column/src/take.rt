@@ -70,8 +70,8 @@ impl Column {
     }
 
     /// These rows in this order, of which there are fewer than 2^32, with a null for each `None`; texts
-    /// and strings of more than 16 bytes are shared. `OutOfBounds` where an index is not below the length (polars
-    /// `take`).
+    /// and strings of bytes are shared where they have more than 16. `OutOfBounds` where an index is not
+    /// below the length (polars `take`).
     pub fn take(&self, alloc: Global, indices: &[Option<u32>]) -> Px<Column>
         requires { length indices.now < 2 ^ 32 }
         ensures { Answers result (taken self.now indices.now) }

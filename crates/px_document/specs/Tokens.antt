@@ -35,8 +35,8 @@ abbrev pub IsPushed : Slot → Series → Series → Type 0
 IsPushed s old new = (slot_fits old.kind s ≡ true) × (new ≡ record old { slots = old.slots ++ s ∷ [] })
 
 -- one row more: what the token says in the type of the rows
-abbrev pub IsRowOf : Token → Series → Series → Type 0
-IsRowOf t old new = (s : Slot) × (option_and_then (fitting_place old.kind) (token_data t) ≡ Some s) × (new ≡ record old { slots = old.slots ++ s ∷ [] })
+abbrev pub IsTokenPushed : Token → Series → Series → Type 0
+IsTokenPushed t old new = (s : Slot) × (option_and_then (fitting_place old.kind) (token_data t) ≡ Some s) × (new ≡ record old { slots = old.slots ++ s ∷ [] })
 
 -- the column of this name and type has the places that are said up to the end of an array
 abbrev pub IsRowsOf : List ℕ → Kind → Series → List Token → List Token → Type 0

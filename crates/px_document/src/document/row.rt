@@ -3,7 +3,7 @@ ghost use Rattle.std.specs.Prelude.{◌≡◌, ◌+◌, ◌<◌, ◌^◌, length
 ghost use Rattle.json.specs.Reads.{token_of};
 ghost use Rattle.px_column.specs.Prelude.{kind_of, slot_of_ref};
 ghost use Rattle.px_document.specs.Form.{IfRead};
-ghost use Rattle.px_document.specs.Tokens.{IsPushed, IsRowOf};
+ghost use Rattle.px_document.specs.Tokens.{IsPushed, IsTokenPushed};
 
 use crate::document::fault::DocumentFault;
 use crate::document::tokens::{integer_at, token_place};
@@ -37,7 +37,7 @@ fn push_place(
 ) -> Result<Option<()>, DocumentFault>
     requires kind { rows.old.kind ≡ kind_of dtype.now }
     requires room { length rows.old.slots + 1 < 2 ^ 32 }
-    ensures { IfRead result (λ _. IsRowOf (token_of token.entry) rows.old rows.new) }
+    ensures { IfRead result (λ _. IsTokenPushed (token_of token.entry) rows.old rows.new) }
 {
     match token_place(token) {
         Some(slot) => push_fitting(rows, dtype, slot),
@@ -54,7 +54,7 @@ pub(crate) fn push_token(
 ) -> Result<Option<()>, DocumentFault>
     requires kind { rows.old.kind ≡ kind_of dtype.now }
     requires room { length rows.old.slots + 1 < 2 ^ 32 }
-    ensures { IfRead result (λ _. IsRowOf (token_of token.entry) rows.old rows.new) }
+    ensures { IfRead result (λ _. IsTokenPushed (token_of token.entry) rows.old rows.new) }
 {
     match token {
         Token::Number(text) => match integer_at(text) {
