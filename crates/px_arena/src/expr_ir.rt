@@ -6,10 +6,19 @@ use px_column::Name;
 use std::marker::Model;
 
 /// An expression in an arena, and the name that its result is given, if any (polars `ExprIR`).
-#[derive(Drop)]
 pub struct ExprIR {
     node: Node,
     alias: Option<Name>,
+}
+
+/// One call where an expression is let go, so that proofs see no more of what is inside.
+impl Drop for ExprIR {
+    fn drop(self) {
+        let ExprIR {
+            node: _,
+            alias: _alias,
+        } = self;
+    }
 }
 
 impl Model for ExprIR {

@@ -10,7 +10,6 @@ use px_tree::{FunctionExpr, LiteralValue, WindowType};
 pub struct Node(pub u32);
 
 /// One node of an expression: an `Expr` with the places of its children (polars `AExpr`).
-#[derive(Drop)]
 pub enum AExpr {
     /// The column of a name.
     Column(Name),
@@ -82,6 +81,65 @@ pub enum AExpr {
         order_by: Option<(Node, SortOptions)>,
         options: WindowType,
     },
+}
+
+/// One call where a node is let go, so that proofs see no case of it.
+impl Drop for AExpr {
+    fn drop(self) {
+        match self {
+            AExpr::Column(_name) => {}
+            AExpr::Literal(_value) => {}
+            AExpr::Alias(_, _name) => {}
+            AExpr::BinaryExpr {
+                left: _,
+                op: _,
+                right: _,
+            } => {}
+            AExpr::Ternary {
+                predicate: _,
+                truthy: _,
+                falsy: _,
+            } => {}
+            AExpr::Cast {
+                expr: _,
+                dtype: _dtype,
+                options: _,
+            } => {}
+            AExpr::Function {
+                input: _input,
+                function: _,
+            } => {}
+            AExpr::Explode(_) => {}
+            AExpr::Filter { input: _, by: _ } => {}
+            AExpr::Slice {
+                input: _,
+                offset: _,
+                length: _,
+            } => {}
+            AExpr::Gather {
+                expr: _,
+                idx: _,
+                returns_scalar: _,
+            } => {}
+            AExpr::Sort {
+                expr: _,
+                options: _,
+            } => {}
+            AExpr::SortBy {
+                expr: _,
+                by: _by,
+                sort_options: _sort_options,
+            } => {}
+            AExpr::Agg(_) => {}
+            AExpr::Len => {}
+            AExpr::Window {
+                function: _,
+                partition_by: _partition_by,
+                order_by: _order_by,
+                options: _,
+            } => {}
+        }
+    }
 }
 
 /// A reduction of the expression at a place (polars `IRAggExpr`).

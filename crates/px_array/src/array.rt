@@ -18,11 +18,21 @@ use std::marker::Model;
 use std::rc::Rc;
 
 /// Shared values of one type, or one value for all places.
-#[derive(Drop)]
 pub(crate) enum Inner {
     Shared(Rc<Store>),
     Constant(Option<Value>),
     SameList(Rc<Values>),
+}
+
+/// One call where values are let go, so that proofs see no case of them.
+impl Drop for Inner {
+    fn drop(self) {
+        match self {
+            Inner::Shared(_store) => {}
+            Inner::Constant(_slot) => {}
+            Inner::SameList(_values) => {}
+        }
+    }
 }
 
 /// What stands at a place.

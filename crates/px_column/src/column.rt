@@ -16,10 +16,19 @@ use std::marker::Model;
 
 /// A column (polars `Column`), seen as its name, its type and its places, which its copies and slices
 /// share.
-#[derive(Drop)]
 pub struct Column {
     pub(crate) name: Name,
     pub(crate) array: Array,
+}
+
+/// One call where a column is let go, so that proofs see no more of what is inside.
+impl Drop for Column {
+    fn drop(self) {
+        let Column {
+            name: _name,
+            array: _array,
+        } = self;
+    }
 }
 
 impl Model for Column {

@@ -36,7 +36,6 @@ pub use fault::DocumentFault;
 use fields::{items, two_fields};
 use in_order::read_in_order;
 use parsed::Parsed;
-use px_column::PxError;
 use px_frame::DataFrame;
 use px_tree::{Step, are_unchunked};
 use serde_json::Value;
@@ -115,12 +114,8 @@ pub fn read_document(alloc: Global, bytes: &[u8]) -> Result<Document, DocumentFa
     ensures refused { result ≡ Err BadDocument → (d : Doc) → IsDocument bytes.now d → ⊥ }
 {
     let parsed = parse_document(alloc, bytes)?;
-    match DataFrame::new(alloc, parsed.columns) {
-        Ok(frame) => Ok(Document {
-            frame,
-            steps: parsed.steps,
-        }),
-        Err(PxError::OutOfMemory) => Err(DocumentFault::OutOfMemory),
-        Err(_) => Err(DocumentFault::BadDocument),
-    }
+    Ok(Document {
+        frame: DataFrame::new(alloc, parsed.columns)?,
+        steps: parsed.steps,
+    })
 }

@@ -16,11 +16,20 @@ use std::alloc::Global;
 use std::marker::Model;
 
 /// Columns with distinct names and of one height (polars `DataFrame`), seen as their list.
-#[derive(Drop)]
 pub struct DataFrame {
     columns: Vec<Column>,
     // The columns' names in their order, by which a column is found.
     names: IndexSet<Name>,
+}
+
+/// One call where a frame is let go, so that proofs see no more of what is inside.
+impl Drop for DataFrame {
+    fn drop(self) {
+        let DataFrame {
+            columns: _columns,
+            names: _names,
+        } = self;
+    }
 }
 
 impl Model for DataFrame {

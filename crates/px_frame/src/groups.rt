@@ -15,7 +15,6 @@ use std::marker::Model;
 pub type IdxVec = SmallVec<u32, 1>;
 
 /// How groups are kept (polars `GroupsType`).
-#[derive(Drop)]
 pub enum GroupsType {
     /// For each group a number `first` and its rows.
     Idx(Vec<(u32, IdxVec)>),
@@ -26,6 +25,19 @@ pub enum GroupsType {
         /// Whether the slices roll over the rows; changes no result.
         rolling: bool,
     },
+}
+
+/// One call where groups are let go, so that proofs see no case of them.
+impl Drop for GroupsType {
+    fn drop(self) {
+        match self {
+            GroupsType::Idx(_groups) => {}
+            GroupsType::Slice {
+                groups: _groups,
+                rolling: _,
+            } => {}
+        }
+    }
 }
 
 /// Groups with the height that bounds their rows. A group may be empty, may overlap others and may

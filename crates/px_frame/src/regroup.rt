@@ -28,23 +28,15 @@ fn sort_slices(slices: &mut Vec<[u32; 2]>) -> Px<()>
 
 impl GroupsType {
     /// The groups by their numbers `first`, those of one number in the order in which they stood.
-    pub(crate) fn order_by_first(self) -> Px<GroupsType>
+    pub(crate) fn order_by_first(mut self) -> Px<GroupsType>
         ensures answer { AnswersBy (λ _. tt {0}) result (Ok (tt {0})) }
         ensures sorted { IfOk result (λ g. IsByFirst (groups_of self) (groups_of g)) }
     {
-        match self {
-            GroupsType::Idx(mut groups) => {
-                sort_lists(&mut groups)?;
-                Ok(GroupsType::Idx(groups))
-            }
-            GroupsType::Slice {
-                mut groups,
-                rolling,
-            } => {
-                sort_slices(&mut groups)?;
-                Ok(GroupsType::Slice { groups, rolling })
-            }
+        match &mut self {
+            GroupsType::Idx(groups) => sort_lists(groups)?,
+            GroupsType::Slice { groups, .. } => sort_slices(groups)?,
         }
+        Ok(self)
     }
 }
 

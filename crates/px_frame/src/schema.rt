@@ -24,9 +24,15 @@ pub struct Field {
 
 /// Fields with distinct names in their order (polars `Schema`), seen as the list of their names and
 /// types.
-#[derive(Drop)]
 pub struct Schema {
     fields: IndexMap<Name, DataType>,
+}
+
+/// One call where a schema is let go, so that proofs see no more of what is inside.
+impl Drop for Schema {
+    fn drop(self) {
+        let Schema { fields: _fields } = self;
+    }
 }
 
 /// A schema with several owners (polars `SchemaRef`).

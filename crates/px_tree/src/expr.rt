@@ -8,7 +8,6 @@ use std::rc::Rc;
 
 /// An expression over the columns of a frame. Copies share what they are made of.
 #[cycle(expr)]
-#[derive(Drop)]
 pub enum Expr {
     /// The column of a name.
     Column(Name),
@@ -82,17 +81,86 @@ pub enum Expr {
     },
 }
 
+/// One call where an expression is let go, so that proofs see no case of it.
+impl Drop for Expr {
+    #[cycle(let_go)]
+    fn drop(self) {
+        match self {
+            Expr::Column(_name) => {}
+            Expr::Literal(_value) => {}
+            Expr::Alias(_inner, _name) => {}
+            Expr::BinaryExpr {
+                left: _left,
+                op: _,
+                right: _right,
+            } => {}
+            Expr::Ternary {
+                predicate: _predicate,
+                truthy: _truthy,
+                falsy: _falsy,
+            } => {}
+            Expr::Cast {
+                expr: _expr,
+                dtype: _dtype,
+                options: _,
+            } => {}
+            Expr::Function {
+                input: _input,
+                function: _,
+            } => {}
+            Expr::Explode(_inner) => {}
+            Expr::Filter {
+                input: _input,
+                by: _by,
+            } => {}
+            Expr::Slice {
+                input: _input,
+                offset: _offset,
+                length: _length,
+            } => {}
+            Expr::Gather {
+                expr: _expr,
+                idx: _idx,
+                returns_scalar: _,
+            } => {}
+            Expr::Sort {
+                expr: _expr,
+                options: _,
+            } => {}
+            Expr::SortBy {
+                expr: _expr,
+                by: _by,
+                sort_options: _sort_options,
+            } => {}
+            Expr::Agg(_reduction) => {}
+            Expr::Len => {}
+            Expr::Window {
+                function: _function,
+                partition_by: _partition_by,
+                order_by: _order_by,
+                options: _,
+            } => {}
+        }
+    }
+}
+
 /// A list of expressions, which its copies share.
 #[cycle(expr)]
-#[derive(Drop)]
 pub struct Exprs {
     /// The expressions in their order.
     pub items: Rc<Vec<Expr>>,
 }
 
+/// One call where expressions are let go, so that proofs see no more of what is inside.
+impl Drop for Exprs {
+    #[cycle(let_go)]
+    fn drop(self) {
+        let Exprs { items: _items } = self;
+    }
+}
+
 /// A reduction: an expression's rows become one value.
 #[cycle(expr)]
-#[derive(Drop)]
 pub enum AggExpr {
     /// The least of the present values.
     Min(Rc<Expr>),
@@ -110,4 +178,21 @@ pub enum AggExpr {
     Implode(Rc<Expr>),
     /// The number of rows, with nulls or without.
     Count(Rc<Expr>, bool),
+}
+
+/// One call where a reduction is let go, so that proofs see no case of it.
+impl Drop for AggExpr {
+    #[cycle(let_go)]
+    fn drop(self) {
+        match self {
+            AggExpr::Min(_inner) => {}
+            AggExpr::Max(_inner) => {}
+            AggExpr::Sum(_inner) => {}
+            AggExpr::First(_inner) => {}
+            AggExpr::Last(_inner) => {}
+            AggExpr::NUnique(_inner) => {}
+            AggExpr::Implode(_inner) => {}
+            AggExpr::Count(_inner, _) => {}
+        }
+    }
 }

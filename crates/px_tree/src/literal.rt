@@ -9,7 +9,6 @@ use px_column::{ByteString, Column, DataType, Name, Px};
 use std::alloc::Global;
 
 /// A value, a range of integers or a column that an expression holds (polars `LiteralValue`).
-#[derive(Drop)]
 pub enum LiteralValue {
     /// A truth.
     Boolean(bool),
@@ -46,6 +45,32 @@ pub enum LiteralValue {
     },
     /// A column of its own.
     Series(Column),
+}
+
+/// One call where a literal is let go, so that proofs see no case of it.
+impl Drop for LiteralValue {
+    fn drop(self) {
+        match self {
+            LiteralValue::Boolean(_) => {}
+            LiteralValue::Int8(_) => {}
+            LiteralValue::Int16(_) => {}
+            LiteralValue::Int32(_) => {}
+            LiteralValue::Int64(_) => {}
+            LiteralValue::UInt8(_) => {}
+            LiteralValue::UInt16(_) => {}
+            LiteralValue::UInt32(_) => {}
+            LiteralValue::UInt64(_) => {}
+            LiteralValue::String(_name) => {}
+            LiteralValue::Binary(_bytes) => {}
+            LiteralValue::Null => {}
+            LiteralValue::Range {
+                low: _,
+                high: _,
+                dtype: _dtype,
+            } => {}
+            LiteralValue::Series(_column) => {}
+        }
+    }
 }
 
 /// Whether a range of integers can be of this type: Int32, Int64 or UInt32.

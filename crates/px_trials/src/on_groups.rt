@@ -3,7 +3,7 @@
 ghost use Rattle.std.specs.Prelude.{◌≡◌, ◌<◌};
 
 use px_column::{ByteString, Column, GroupByMethod, Px, PxError, Steps};
-use px_document::read_document;
+use px_document::{Document, read_document};
 use px_expr::{
     ExpressionConversionState, PhysExpr, PhysicalExpr, create_physical_expr, evaluate_cell,
 };
@@ -42,12 +42,16 @@ const DOCUMENT: &str = r#"{"columns":[{"name":"k","type":"Int64","values":[2,0,1
 {"agg":["Sum",{"bin":["Multiply",{"col":"x"},{"col":"k"}]}]},{"agg":["NUnique",{"col":"s"}]},{"agg":["Count",{"col":"x"},false]},{"agg":["Implode",{"col":"l"}]},
 {"agg":["Last",{"sort":[{"col":"x"},{"descending":false,"nulls_last":false}]}]},{"agg":["Sum",{"filter":[{"col":"x"},{"bin":["Eq",{"col":"k"},{"agg":["Min",{"col":"k"}]}]}]}]}]}]}"#;
 
-fn document(alloc: Global) -> Result<(DataFrame, Vec<Expr>), Fail> {
+fn document(alloc: Global) -> Result<Document, Fail> {
     let document = read_document(alloc, DOCUMENT.as_bytes());
-    let document = document.ok().ok_or("the text is a document")?;
-    for step in document.steps {
+    Ok(document.ok().ok_or("the text is a document")?)
+}
+
+/// The expressions of the first select step.
+fn expressions(steps: &[Step]) -> Result<&[Expr], Fail> {
+    for step in steps {
         if let Step::Select(exprs) = step {
-            return Ok((document.frame, exprs));
+            return Ok(exprs);
         }
     }
     Err(Fail::from("the document has a select step"))
@@ -227,8 +231,8 @@ fn both_ways(
 fn groups_have_the_values_of_their_rows(rt: HostRuntime) -> Result<(), Fail> {
     let alloc = rt.alloc();
     let mut rng = Pcg32::new(3, 54);
-    let (frame, exprs) = document(alloc)?;
-    for (number, expr) in exprs.iter().enumerate() {
+    let Document { frame, steps } = document(alloc)?;
+    for (number, expr) in expressions(&steps)?.iter().enumerate() {
         let node = plan(alloc, expr, &frame)?;
         for _ in 0..12u32 {
             let (all, each) = both_ways(alloc, &node, &frame, &mut rng)?;

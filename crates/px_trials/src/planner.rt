@@ -38,10 +38,13 @@ fn schema(alloc: Global) -> Px<SchemaRef> {
 
 // The name of a column's node, or the line of a refusal.
 fn text_of_node(alloc: Global, answer: Px<PhysExpr>) -> Px<Name> {
-    match answer {
-        Ok(PhysExpr::Column(node)) => node.name().try_clone(alloc),
-        Ok(_) => Err(PxError::OutOfBounds),
-        Err(error) => text_of_refusal(alloc, error),
+    let node = match answer {
+        Ok(node) => node,
+        Err(error) => return text_of_refusal(alloc, error),
+    };
+    match &node {
+        PhysExpr::Column(node) => node.name().try_clone(alloc),
+        _ => Err(PxError::OutOfBounds),
     }
 }
 

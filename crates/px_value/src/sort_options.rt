@@ -17,12 +17,21 @@ pub struct SortOptions {
 
 /// How rows are sorted by several keys (polars `SortMultipleOptions`): for each key whether it is
 /// descending, and whether its nulls come last.
-#[derive(Drop)]
 pub struct SortMultipleOptions {
     /// For each key, whether its greatest values come first.
     pub descending: Flags,
     /// For each key, whether its nulls come last, whatever the direction.
     pub nulls_last: Flags,
+}
+
+/// One call where options are let go, so that proofs see no more of what is inside.
+impl Drop for SortMultipleOptions {
+    fn drop(self) {
+        let SortMultipleOptions {
+            descending: _descending,
+            nulls_last: _nulls_last,
+        } = self;
+    }
 }
 
 impl SortMultipleOptions {
@@ -40,9 +49,15 @@ impl SortMultipleOptions {
 }
 
 /// Truths in an order; seen as their list.
-#[derive(Drop)]
 pub struct Flags {
     items: Vec<bool>,
+}
+
+/// One call where flags are let go, so that proofs see no more of what is inside.
+impl Drop for Flags {
+    fn drop(self) {
+        let Flags { items: _items } = self;
+    }
 }
 
 impl Model for Flags {

@@ -9,12 +9,21 @@ use px_frame::DataFrame;
 use std::alloc::Global;
 
 /// A frame that is cached for those that ask for it again (polars `CachedValue`).
-#[derive(Drop)]
 pub struct CachedValue {
     /// How often it is still to be asked for.
     pub hits: i64,
     /// The frame, `None` until it is there.
     pub frame: Option<DataFrame>,
+}
+
+/// One call where a value is let go, so that proofs see no more of what is inside.
+impl Drop for CachedValue {
+    fn drop(self) {
+        let CachedValue {
+            hits: _,
+            frame: _frame,
+        } = self;
+    }
 }
 
 impl CachedValue {

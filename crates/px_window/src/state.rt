@@ -18,7 +18,6 @@ use std::marker::Model;
 /// What an evaluation keeps beside the frame (polars `ExecutionState`), seen as the schema, the branch,
 /// the flags, the list of frames from outside, the mark to stop, and the list of keys with what is
 /// cached under them, in the order in which they came.
-#[derive(Drop)]
 pub struct ExecutionState {
     /// The schema of the frame that is evaluated next, where it is known.
     pub schema_cache: Option<SchemaRef>,
@@ -30,6 +29,20 @@ pub struct ExecutionState {
     pub ext_contexts: Vec<DataFrame>,
     is_stopped: bool,
     df_cache: IndexMap<u64, CachedValue>,
+}
+
+/// One call where a state is let go, so that proofs see no more of what is inside.
+impl Drop for ExecutionState {
+    fn drop(self) {
+        let ExecutionState {
+            schema_cache: _schema_cache,
+            branch_idx: _,
+            flags: _,
+            ext_contexts: _ext_contexts,
+            is_stopped: _,
+            df_cache: _df_cache,
+        } = self;
+    }
 }
 
 impl Model for ExecutionState {
