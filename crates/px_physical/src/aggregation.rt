@@ -136,10 +136,6 @@ impl PhysicalExpr for AggregationExpr {
         aggregation_groups(alloc, input, self.agg_type.groupby, kernels)
     }
 
-    fn evaluate_inline(&self, alloc: Global) -> Px<Option<Column>> {
-        self.evaluate_inline_impl(alloc, 4)
-    }
-
     fn evaluate_inline_impl(&self, alloc: Global, depth_limit: u8) -> Px<Option<Column>> {
         let _ = &self.field;
         Ok(None)

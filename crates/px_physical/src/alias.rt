@@ -15,6 +15,7 @@ use px_plan::Expr;
 use px_window::ExecutionState;
 use std::alloc::Global;
 use std::marker::Model;
+use std::rc::Rc;
 use std::sync::ledger::Ledger;
 
 /// A node under another name (polars `AliasExpr`).
@@ -23,7 +24,7 @@ use std::sync::ledger::Ledger;
 pub struct AliasExpr {
     physical_expr: Box<PhysExpr>,
     name: Name,
-    expr: Expr,
+    expr: Rc<Expr>,
 }
 
 impl Model for AliasExpr {
@@ -41,7 +42,7 @@ impl Model for AliasExpr {
 
     ghost view = { λ a. record { tree = alias (plan_of a.physical_expr.value).tree a.name; columns = (plan_of a.physical_expr.value).columns } };
 
-    ghost invariant = { λ a. tree a.expr ≡ (plan_of a.physical_expr.value).tree };
+    ghost invariant = { λ a. tree a.expr.value ≡ (plan_of a.physical_expr.value).tree };
 
     ghost size = { plan_size };
 
@@ -52,8 +53,8 @@ impl Model for AliasExpr {
 
 impl AliasExpr {
     /// A node under this name; the expression is the node's.
-    pub fn new(physical_expr: Box<PhysExpr>, name: Name, expr: Expr) -> AliasExpr
-        requires { tree expr ≡ (plan_of physical_expr.value).tree }
+    pub fn new(physical_expr: Box<PhysExpr>, name: Name, expr: Rc<Expr>) -> AliasExpr
+        requires { tree expr.value ≡ (plan_of physical_expr.value).tree }
         ensures tree { result.tree ≡ alias (plan_of physical_expr.value).tree name }
         ensures columns { result.columns ≡ (plan_of physical_expr.value).columns }
     {
@@ -126,10 +127,6 @@ impl PhysicalExpr for AliasExpr {
             .physical_expr
             .evaluate_on_groups(alloc, df, groups, state, kernels, groupings)?;
         context.with_name(alloc, name)
-    }
-
-    fn evaluate_inline(&self, alloc: Global) -> Px<Option<Column>> {
-        self.evaluate_inline_impl(alloc, 4)
     }
 
     #[cycle(inline)]

@@ -22,6 +22,7 @@ use px_plan::{Expr, FunctionExpr};
 use px_window::ExecutionState;
 use std::alloc::Global;
 use std::marker::Model;
+use std::rc::Rc;
 use std::sync::ledger::Ledger;
 
 /// A function of nodes (polars `ApplyExpr`).
@@ -30,7 +31,7 @@ use std::sync::ledger::Ledger;
 pub struct ApplyExpr {
     inputs: Vec<PhysExpr>,
     function: FunctionExpr,
-    expr: Expr,
+    expr: Rc<Expr>,
     input_schema: SchemaRef,
     output_field: Field,
     returns_scalar: bool,
@@ -52,9 +53,9 @@ impl Model for ApplyExpr {
     ghost use Rattle.px_answers.specs.Parts.{call_in, call_on, plan_trees};
     ghost use Rattle.px_physical.specs.Size.{apply_size};
 
-    ghost view = { λ a. record { inputs = map plan_of a.inputs.items; call = call_in (tree a.expr); input_schema = a.input_schema.value; output_field = field_kind a.output_field } };
+    ghost view = { λ a. record { inputs = map plan_of a.inputs.items; call = call_in (tree a.expr.value); input_schema = a.input_schema.value; output_field = field_kind a.output_field } };
 
-    ghost invariant = { λ a. (tree a.expr ≡ call_on (plan_trees (map plan_of a.inputs.items)) (call_in (tree a.expr))) × ((called (call_in (tree a.expr)) ≡ a.function) × (a.returns_scalar ≡ is_unit (tree a.expr))) };
+    ghost invariant = { λ a. (tree a.expr.value ≡ call_on (plan_trees (map plan_of a.inputs.items)) (call_in (tree a.expr.value))) × ((called (call_in (tree a.expr.value)) ≡ a.function) × (a.returns_scalar ≡ is_unit (tree a.expr.value))) };
 
     ghost size = { apply_size };
 
@@ -69,15 +70,15 @@ impl ApplyExpr {
     pub fn new(
         inputs: Vec<PhysExpr>,
         function: FunctionExpr,
-        expr: Expr,
+        expr: Rc<Expr>,
         input_schema: SchemaRef,
         output_field: Field,
         returns_scalar: bool,
     ) -> ApplyExpr
-        requires tree { tree expr ≡ call_on (plan_trees (map plan_of inputs.items)) (call_in (tree expr)) }
-        requires function { called (call_in (tree expr)) ≡ function }
-        requires unit { returns_scalar ≡ is_unit (tree expr) }
-        ensures { result ≡ record { inputs = map plan_of inputs.items; call = call_in (tree expr); input_schema = input_schema.value; output_field = field_kind output_field } }
+        requires tree { tree expr.value ≡ call_on (plan_trees (map plan_of inputs.items)) (call_in (tree expr.value)) }
+        requires function { called (call_in (tree expr.value)) ≡ function }
+        requires unit { returns_scalar ≡ is_unit (tree expr.value) }
+        ensures { result ≡ record { inputs = map plan_of inputs.items; call = call_in (tree expr.value); input_schema = input_schema.value; output_field = field_kind output_field } }
     {
         ApplyExpr {
             inputs,
@@ -193,10 +194,6 @@ impl PhysicalExpr for ApplyExpr {
         )?;
         accept_inputs(&self.function, &self.inputs)?;
         apply_groups(alloc, inputs, &self.function, kernels)
-    }
-
-    fn evaluate_inline(&self, alloc: Global) -> Px<Option<Column>> {
-        self.evaluate_inline_impl(alloc, 4)
     }
 
     #[cycle(inline)]

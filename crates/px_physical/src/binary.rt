@@ -18,6 +18,7 @@ use px_plan::Expr;
 use px_window::ExecutionState;
 use std::alloc::Global;
 use std::marker::Model;
+use std::rc::Rc;
 use std::sync::ledger::Ledger;
 
 /// Two nodes combined row by row (polars `BinaryExpr`).
@@ -27,7 +28,7 @@ pub struct BinaryExpr {
     left: Box<PhysExpr>,
     op: Operator,
     right: Box<PhysExpr>,
-    expr: Expr,
+    expr: Rc<Expr>,
     has_literal: bool,
     is_scalar: bool,
 }
@@ -48,7 +49,7 @@ impl Model for BinaryExpr {
 
     ghost view = { λ a. record { left = plan_of a.left.value; op = a.op; right = plan_of a.right.value; has_literal = a.has_literal } };
 
-    ghost invariant = { λ a. (tree a.expr ≡ binary (plan_of a.left.value).tree a.op (plan_of a.right.value).tree) × (a.is_scalar ≡ is_unit (tree a.expr)) };
+    ghost invariant = { λ a. (tree a.expr.value ≡ binary (plan_of a.left.value).tree a.op (plan_of a.right.value).tree) × (a.is_scalar ≡ is_unit (tree a.expr.value)) };
 
     ghost size = { binary_size };
 
@@ -64,12 +65,12 @@ impl BinaryExpr {
         left: Box<PhysExpr>,
         op: Operator,
         right: Box<PhysExpr>,
-        expr: Expr,
+        expr: Rc<Expr>,
         has_literal: bool,
         is_scalar: bool,
     ) -> BinaryExpr
-        requires tree { tree expr ≡ binary (plan_of left.value).tree op (plan_of right.value).tree }
-        requires unit { is_scalar ≡ is_unit (tree expr) }
+        requires tree { tree expr.value ≡ binary (plan_of left.value).tree op (plan_of right.value).tree }
+        requires unit { is_scalar ≡ is_unit (tree expr.value) }
         ensures { result ≡ record { left = plan_of left.value; op = op; right = plan_of right.value; has_literal = has_literal } }
     {
         BinaryExpr {
@@ -160,10 +161,6 @@ impl PhysicalExpr for BinaryExpr {
             .right
             .evaluate_on_groups(alloc, df, groups, state, kernels, groupings)?;
         binary_groups(alloc, left, right, self.op, kernels)
-    }
-
-    fn evaluate_inline(&self, alloc: Global) -> Px<Option<Column>> {
-        self.evaluate_inline_impl(alloc, 4)
     }
 
     fn evaluate_inline_impl(&self, alloc: Global, depth_limit: u8) -> Px<Option<Column>> {

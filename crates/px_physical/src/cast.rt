@@ -19,6 +19,7 @@ use px_plan::Expr;
 use px_window::ExecutionState;
 use std::alloc::Global;
 use std::marker::Model;
+use std::rc::Rc;
 use std::sync::ledger::Ledger;
 
 /// A node in another type (polars `CastExpr`).
@@ -28,7 +29,7 @@ pub struct CastExpr {
     input: Box<PhysExpr>,
     dtype: DataType,
     options: CastOptions,
-    expr: Expr,
+    expr: Rc<Expr>,
 }
 
 impl Model for CastExpr {
@@ -47,7 +48,7 @@ impl Model for CastExpr {
 
     ghost view = { λ a. record { input = plan_of a.input.value; dtype = kind_of a.dtype; options = a.options } };
 
-    ghost invariant = { λ a. tree a.expr ≡ cast (plan_of a.input.value).tree (kind_of a.dtype) a.options };
+    ghost invariant = { λ a. tree a.expr.value ≡ cast (plan_of a.input.value).tree (kind_of a.dtype) a.options };
 
     ghost size = { cast_size };
 
@@ -58,8 +59,13 @@ impl Model for CastExpr {
 
 impl CastExpr {
     /// A node in another type; the expression is that cast.
-    pub fn new(input: Box<PhysExpr>, dtype: DataType, options: CastOptions, expr: Expr) -> CastExpr
-        requires tree { tree expr ≡ cast (plan_of input.value).tree (kind_of dtype) options }
+    pub fn new(
+        input: Box<PhysExpr>,
+        dtype: DataType,
+        options: CastOptions,
+        expr: Rc<Expr>,
+    ) -> CastExpr
+        requires tree { tree expr.value ≡ cast (plan_of input.value).tree (kind_of dtype) options }
         ensures { result ≡ record { input = plan_of input.value; dtype = kind_of dtype; options = options } }
     {
         CastExpr {
@@ -137,10 +143,6 @@ impl PhysicalExpr for CastExpr {
             .input
             .evaluate_on_groups(alloc, df, groups, state, kernels, groupings)?;
         cast_groups(alloc, input, &self.dtype, self.options, kernels)
-    }
-
-    fn evaluate_inline(&self, alloc: Global) -> Px<Option<Column>> {
-        self.evaluate_inline_impl(alloc, 4)
     }
 
     #[cycle(inline)]

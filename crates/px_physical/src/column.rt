@@ -14,13 +14,14 @@ use px_scope::{copy_column, external_column, found_column};
 use px_window::ExecutionState;
 use std::alloc::Global;
 use std::marker::Model;
+use std::rc::Rc;
 use std::sync::ledger::Ledger;
 
 /// The column of a name, the frame's or else one beside it (polars `ColumnExpr`).
 #[derive(Drop)]
 pub struct ColumnExpr {
     name: Name,
-    expr: Expr,
+    expr: Rc<Expr>,
     schema: SchemaRef,
 }
 
@@ -37,13 +38,13 @@ impl Model for ColumnExpr {
 
     ghost view = { λ a. record { tree = column a.name; columns = record { name = a.name; schema = a.schema.value } ∷ [] } };
 
-    ghost invariant = { λ a. tree a.expr ≡ column a.name };
+    ghost invariant = { λ a. tree a.expr.value ≡ column a.name };
 }
 
 impl ColumnExpr {
     /// The column of this name, planned over a schema; the expression is that column.
-    pub fn new(name: Name, expr: Expr, schema: SchemaRef) -> ColumnExpr
-        requires { tree expr ≡ column name }
+    pub fn new(name: Name, expr: Rc<Expr>, schema: SchemaRef) -> ColumnExpr
+        requires { tree expr.value ≡ column name }
         ensures tree { result.tree ≡ column name }
         ensures columns { result.columns ≡ record { name = name; schema = schema.value } ∷ [] }
     {
@@ -131,10 +132,6 @@ impl PhysicalExpr for ColumnExpr {
                 Ok(AggregationContext::new(column, groups, false))
             }
         }
-    }
-
-    fn evaluate_inline(&self, alloc: Global) -> Px<Option<Column>> {
-        self.evaluate_inline_impl(alloc, 4)
     }
 
     fn evaluate_inline_impl(&self, alloc: Global, depth_limit: u8) -> Px<Option<Column>> {

@@ -112,10 +112,6 @@ impl PhysicalExpr for CountExpr {
         Ok(AggregationContext::new(column, GroupsRef::Borrowed(groups), true))
     }
 
-    fn evaluate_inline(&self, alloc: Global) -> Px<Option<Column>> {
-        self.evaluate_inline_impl(alloc, 4)
-    }
-
     fn evaluate_inline_impl(&self, alloc: Global, depth_limit: u8) -> Px<Option<Column>> {
         let _ = &self.expr;
         Ok(None)

@@ -18,6 +18,7 @@ use px_plan::Expr;
 use px_window::ExecutionState;
 use std::alloc::Global;
 use std::marker::Model;
+use std::rc::Rc;
 use std::sync::ledger::Ledger;
 
 /// The rows for which a mask is true (polars `FilterExpr`).
@@ -26,7 +27,7 @@ use std::sync::ledger::Ledger;
 pub struct FilterExpr {
     input: Box<PhysExpr>,
     by: Box<PhysExpr>,
-    expr: Expr,
+    expr: Rc<Expr>,
 }
 
 impl Model for FilterExpr {
@@ -44,7 +45,7 @@ impl Model for FilterExpr {
 
     ghost view = { λ a. record { input = plan_of a.input.value; by = plan_of a.by.value } };
 
-    ghost invariant = { λ a. tree a.expr ≡ filter (plan_of a.input.value).tree (plan_of a.by.value).tree };
+    ghost invariant = { λ a. tree a.expr.value ≡ filter (plan_of a.input.value).tree (plan_of a.by.value).tree };
 
     ghost size = { filter_size };
 
@@ -55,8 +56,8 @@ impl Model for FilterExpr {
 
 impl FilterExpr {
     /// The rows of a node for which another is true; the expression is that filter.
-    pub fn new(input: Box<PhysExpr>, by: Box<PhysExpr>, expr: Expr) -> FilterExpr
-        requires tree { tree expr ≡ filter (plan_of input.value).tree (plan_of by.value).tree }
+    pub fn new(input: Box<PhysExpr>, by: Box<PhysExpr>, expr: Rc<Expr>) -> FilterExpr
+        requires tree { tree expr.value ≡ filter (plan_of input.value).tree (plan_of by.value).tree }
         ensures { result ≡ record { input = plan_of input.value; by = plan_of by.value } }
     {
         FilterExpr { input, by, expr }
@@ -127,10 +128,6 @@ impl PhysicalExpr for FilterExpr {
             .evaluate_on_groups(alloc, df, groups, state, kernels, groupings)?;
         accept_rows(&self.input)?;
         filter_groups(alloc, input, by, kernels)
-    }
-
-    fn evaluate_inline(&self, alloc: Global) -> Px<Option<Column>> {
-        self.evaluate_inline_impl(alloc, 4)
     }
 
     fn evaluate_inline_impl(&self, alloc: Global, depth_limit: u8) -> Px<Option<Column>> {

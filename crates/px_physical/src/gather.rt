@@ -19,6 +19,7 @@ use px_plan::Expr;
 use px_window::ExecutionState;
 use std::alloc::Global;
 use std::marker::Model;
+use std::rc::Rc;
 use std::sync::ledger::Ledger;
 
 /// The rows that indices name, or the one row (polars `GatherExpr`).
@@ -27,7 +28,7 @@ use std::sync::ledger::Ledger;
 pub struct GatherExpr {
     phys_expr: Box<PhysExpr>,
     idx: Box<PhysExpr>,
-    expr: Expr,
+    expr: Rc<Expr>,
     returns_scalar: bool,
 }
 
@@ -46,7 +47,7 @@ impl Model for GatherExpr {
 
     ghost view = { λ a. record { phys_expr = plan_of a.phys_expr.value; idx = plan_of a.idx.value; returns_scalar = a.returns_scalar } };
 
-    ghost invariant = { λ a. tree a.expr ≡ gather (plan_of a.phys_expr.value).tree (plan_of a.idx.value).tree a.returns_scalar };
+    ghost invariant = { λ a. tree a.expr.value ≡ gather (plan_of a.phys_expr.value).tree (plan_of a.idx.value).tree a.returns_scalar };
 
     ghost size = { gather_size };
 
@@ -61,10 +62,10 @@ impl GatherExpr {
     pub fn new(
         phys_expr: Box<PhysExpr>,
         idx: Box<PhysExpr>,
-        expr: Expr,
+        expr: Rc<Expr>,
         returns_scalar: bool,
     ) -> GatherExpr
-        requires tree { tree expr ≡ gather (plan_of phys_expr.value).tree (plan_of idx.value).tree returns_scalar }
+        requires tree { tree expr.value ≡ gather (plan_of phys_expr.value).tree (plan_of idx.value).tree returns_scalar }
         ensures { result ≡ record { phys_expr = plan_of phys_expr.value; idx = plan_of idx.value; returns_scalar = returns_scalar } }
     {
         GatherExpr {
@@ -150,10 +151,6 @@ impl PhysicalExpr for GatherExpr {
         accept_rows(&self.phys_expr)?;
         let is_literal = has_literals_alone(&self.idx);
         gather_groups(alloc, input, idx, self.returns_scalar, is_literal, kernels)
-    }
-
-    fn evaluate_inline(&self, alloc: Global) -> Px<Option<Column>> {
-        self.evaluate_inline_impl(alloc, 4)
     }
 
     fn evaluate_inline_impl(&self, alloc: Global, depth_limit: u8) -> Px<Option<Column>> {

@@ -18,6 +18,7 @@ use px_plan::{Expr, LiteralValue};
 use px_window::ExecutionState;
 use std::alloc::Global;
 use std::marker::Model;
+use std::rc::Rc;
 use std::sync::ledger::Ledger;
 
 /// One row that holds a value of the type.
@@ -91,7 +92,7 @@ fn group_literal_column(alloc: Global, value: &LiteralValue, groups: u32) -> Px<
 #[derive(Drop)]
 pub struct LiteralExpr {
     value: LiteralValue,
-    expr: Expr,
+    expr: Rc<Expr>,
 }
 
 impl Model for LiteralExpr {
@@ -107,13 +108,13 @@ impl Model for LiteralExpr {
 
     ghost view = { λ a. record { tree = literal (literal_of a.value); columns = [] } };
 
-    ghost invariant = { λ a. tree a.expr ≡ literal (literal_of a.value) };
+    ghost invariant = { λ a. tree a.expr.value ≡ literal (literal_of a.value) };
 }
 
 impl LiteralExpr {
     /// This literal; the expression is that literal.
-    pub fn new(value: LiteralValue, expr: Expr) -> LiteralExpr
-        requires { tree expr ≡ literal (literal_of value) }
+    pub fn new(value: LiteralValue, expr: Rc<Expr>) -> LiteralExpr
+        requires { tree expr.value ≡ literal (literal_of value) }
         ensures tree { result.tree ≡ literal (literal_of value) }
         ensures columns { result.columns ≡ [] }
     {
@@ -186,10 +187,6 @@ impl PhysicalExpr for LiteralExpr {
         let column = ColRef::Owned(values);
         let groups = GroupsRef::Borrowed(groups);
         Ok(AggregationContext::from_literal(column, groups, self.value.is_single()))
-    }
-
-    fn evaluate_inline(&self, alloc: Global) -> Px<Option<Column>> {
-        self.evaluate_inline_impl(alloc, 4)
     }
 
     fn evaluate_inline_impl(&self, alloc: Global, depth_limit: u8) -> Px<Option<Column>> {

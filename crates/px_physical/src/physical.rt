@@ -80,7 +80,10 @@ pub trait PhysicalExpr {
     /// four aliases, casts and functions. What is cast, or a function's input, has one row. None for any
     /// other expression, and where it is refused, has a fault or has 2^32 values.
     fn evaluate_inline(&self, alloc: Global) -> Px<Option<Column>>
-        ensures inline { IfOk result (IsInline 4 (planned self.now).tree) };
+        ensures inline { IfOk result (IsInline 4 (planned self.now).tree) }
+    {
+        self.evaluate_inline_impl(alloc, 4)
+    }
 
     /// The same under at most `depth_limit` aliases, casts and functions.
     fn evaluate_inline_impl(&self, alloc: Global, depth_limit: u8) -> Px<Option<Column>>

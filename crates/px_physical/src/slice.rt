@@ -18,6 +18,7 @@ use px_plan::Expr;
 use px_window::ExecutionState;
 use std::alloc::Global;
 use std::marker::Model;
+use std::rc::Rc;
 use std::sync::ledger::Ledger;
 
 /// A window of rows (polars `SliceExpr`).
@@ -27,7 +28,7 @@ pub struct SliceExpr {
     input: Box<PhysExpr>,
     offset: Box<PhysExpr>,
     length: Box<PhysExpr>,
-    expr: Expr,
+    expr: Rc<Expr>,
 }
 
 impl Model for SliceExpr {
@@ -45,7 +46,7 @@ impl Model for SliceExpr {
 
     ghost view = { λ a. record { input = plan_of a.input.value; offset = plan_of a.offset.value; length = plan_of a.length.value } };
 
-    ghost invariant = { λ a. tree a.expr ≡ slice (plan_of a.input.value).tree (plan_of a.offset.value).tree (plan_of a.length.value).tree };
+    ghost invariant = { λ a. tree a.expr.value ≡ slice (plan_of a.input.value).tree (plan_of a.offset.value).tree (plan_of a.length.value).tree };
 
     ghost size = { slice_size };
 
@@ -60,9 +61,9 @@ impl SliceExpr {
         input: Box<PhysExpr>,
         offset: Box<PhysExpr>,
         length: Box<PhysExpr>,
-        expr: Expr,
+        expr: Rc<Expr>,
     ) -> SliceExpr
-        requires tree { tree expr ≡ slice (plan_of input.value).tree (plan_of offset.value).tree (plan_of length.value).tree }
+        requires tree { tree expr.value ≡ slice (plan_of input.value).tree (plan_of offset.value).tree (plan_of length.value).tree }
         ensures { result ≡ record { input = plan_of input.value; offset = plan_of offset.value; length = plan_of length.value } }
     {
         SliceExpr {
@@ -149,10 +150,6 @@ impl PhysicalExpr for SliceExpr {
             .evaluate_on_groups(alloc, df, groups, state, kernels, groupings)?;
         accept_slice(&self.input, &self.offset, &self.length)?;
         slice_groups(alloc, input, offset, length, kernels)
-    }
-
-    fn evaluate_inline(&self, alloc: Global) -> Px<Option<Column>> {
-        self.evaluate_inline_impl(alloc, 4)
     }
 
     fn evaluate_inline_impl(&self, alloc: Global, depth_limit: u8) -> Px<Option<Column>> {

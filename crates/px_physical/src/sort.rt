@@ -18,6 +18,7 @@ use px_plan::Expr;
 use px_window::ExecutionState;
 use std::alloc::Global;
 use std::marker::Model;
+use std::rc::Rc;
 use std::sync::ledger::Ledger;
 
 /// A node's rows in sorted order (polars `SortExpr`).
@@ -26,7 +27,7 @@ use std::sync::ledger::Ledger;
 pub struct SortExpr {
     physical_expr: Box<PhysExpr>,
     options: SortOptions,
-    expr: Expr,
+    expr: Rc<Expr>,
 }
 
 impl Model for SortExpr {
@@ -44,7 +45,7 @@ impl Model for SortExpr {
 
     ghost view = { λ a. record { physical_expr = plan_of a.physical_expr.value; options = a.options } };
 
-    ghost invariant = { λ a. tree a.expr ≡ sort (plan_of a.physical_expr.value).tree a.options };
+    ghost invariant = { λ a. tree a.expr.value ≡ sort (plan_of a.physical_expr.value).tree a.options };
 
     ghost size = { sort_size };
 
@@ -55,8 +56,8 @@ impl Model for SortExpr {
 
 impl SortExpr {
     /// A node's rows in sorted order; the expression is that sort.
-    pub fn new(physical_expr: Box<PhysExpr>, options: SortOptions, expr: Expr) -> SortExpr
-        requires tree { tree expr ≡ sort (plan_of physical_expr.value).tree options }
+    pub fn new(physical_expr: Box<PhysExpr>, options: SortOptions, expr: Rc<Expr>) -> SortExpr
+        requires tree { tree expr.value ≡ sort (plan_of physical_expr.value).tree options }
         ensures { result ≡ record { physical_expr = plan_of physical_expr.value; options = options } }
     {
         SortExpr {
@@ -127,10 +128,6 @@ impl PhysicalExpr for SortExpr {
             .evaluate_on_groups(alloc, df, groups, state, kernels, groupings)?;
         accept_rows(&self.physical_expr)?;
         sort_groups_cells(alloc, input, self.options, kernels)
-    }
-
-    fn evaluate_inline(&self, alloc: Global) -> Px<Option<Column>> {
-        self.evaluate_inline_impl(alloc, 4)
     }
 
     fn evaluate_inline_impl(&self, alloc: Global, depth_limit: u8) -> Px<Option<Column>> {

@@ -21,6 +21,7 @@ use px_plan::Expr;
 use px_window::ExecutionState;
 use std::alloc::Global;
 use std::marker::Model;
+use std::rc::Rc;
 use std::sync::ledger::Ledger;
 
 /// The rows of a node in the order of others (polars `SortByExpr`).
@@ -29,7 +30,7 @@ use std::sync::ledger::Ledger;
 pub struct SortByExpr {
     input: Box<PhysExpr>,
     by: Vec<PhysExpr>,
-    expr: Expr,
+    expr: Rc<Expr>,
     sort_options: SortMultipleOptions,
 }
 
@@ -49,7 +50,7 @@ impl Model for SortByExpr {
 
     ghost view = { λ a. record { input = plan_of a.input.value; by = map plan_of a.by.items; sort_options = a.sort_options } };
 
-    ghost invariant = { λ a. tree a.expr ≡ sort_by (plan_of a.input.value).tree (plan_trees (map plan_of a.by.items)) a.sort_options };
+    ghost invariant = { λ a. tree a.expr.value ≡ sort_by (plan_of a.input.value).tree (plan_trees (map plan_of a.by.items)) a.sort_options };
 
     ghost size = { sort_by_size };
 
@@ -64,10 +65,10 @@ impl SortByExpr {
     pub fn new(
         input: Box<PhysExpr>,
         by: Vec<PhysExpr>,
-        expr: Expr,
+        expr: Rc<Expr>,
         sort_options: SortMultipleOptions,
     ) -> SortByExpr
-        requires tree { tree expr ≡ sort_by (plan_of input.value).tree (plan_trees (map plan_of by.items)) sort_options }
+        requires tree { tree expr.value ≡ sort_by (plan_of input.value).tree (plan_trees (map plan_of by.items)) sort_options }
         ensures { result ≡ record { input = plan_of input.value; by = map plan_of by.items; sort_options = sort_options } }
     {
         SortByExpr {
@@ -163,10 +164,6 @@ impl PhysicalExpr for SortByExpr {
             .evaluate_on_groups(alloc, df, groups, state, kernels, groupings)?;
         accept_rows(&self.input)?;
         sort_by_groups(alloc, input, by, &self.sort_options, kernels)
-    }
-
-    fn evaluate_inline(&self, alloc: Global) -> Px<Option<Column>> {
-        self.evaluate_inline_impl(alloc, 4)
     }
 
     fn evaluate_inline_impl(&self, alloc: Global, depth_limit: u8) -> Px<Option<Column>> {

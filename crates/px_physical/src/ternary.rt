@@ -18,6 +18,7 @@ use px_plan::Expr;
 use px_window::ExecutionState;
 use std::alloc::Global;
 use std::marker::Model;
+use std::rc::Rc;
 use std::sync::ledger::Ledger;
 
 /// Row by row the one where the predicate is true, else the other (polars `TernaryExpr`).
@@ -27,7 +28,7 @@ pub struct TernaryExpr {
     predicate: Box<PhysExpr>,
     truthy: Box<PhysExpr>,
     falsy: Box<PhysExpr>,
-    expr: Expr,
+    expr: Rc<Expr>,
     returns_scalar: bool,
 }
 
@@ -47,7 +48,7 @@ impl Model for TernaryExpr {
 
     ghost view = { λ a. record { predicate = plan_of a.predicate.value; truthy = plan_of a.truthy.value; falsy = plan_of a.falsy.value } };
 
-    ghost invariant = { λ a. (tree a.expr ≡ ternary (plan_of a.predicate.value).tree (plan_of a.truthy.value).tree (plan_of a.falsy.value).tree) × (a.returns_scalar ≡ is_unit (tree a.expr)) };
+    ghost invariant = { λ a. (tree a.expr.value ≡ ternary (plan_of a.predicate.value).tree (plan_of a.truthy.value).tree (plan_of a.falsy.value).tree) × (a.returns_scalar ≡ is_unit (tree a.expr.value)) };
 
     ghost size = { ternary_size };
 
@@ -63,11 +64,11 @@ impl TernaryExpr {
         predicate: Box<PhysExpr>,
         truthy: Box<PhysExpr>,
         falsy: Box<PhysExpr>,
-        expr: Expr,
+        expr: Rc<Expr>,
         returns_scalar: bool,
     ) -> TernaryExpr
-        requires tree { tree expr ≡ ternary (plan_of predicate.value).tree (plan_of truthy.value).tree (plan_of falsy.value).tree }
-        requires unit { returns_scalar ≡ is_unit (tree expr) }
+        requires tree { tree expr.value ≡ ternary (plan_of predicate.value).tree (plan_of truthy.value).tree (plan_of falsy.value).tree }
+        requires unit { returns_scalar ≡ is_unit (tree expr.value) }
         ensures { result ≡ record { predicate = plan_of predicate.value; truthy = plan_of truthy.value; falsy = plan_of falsy.value } }
     {
         TernaryExpr {
@@ -161,10 +162,6 @@ impl PhysicalExpr for TernaryExpr {
             .falsy
             .evaluate_on_groups(alloc, df, groups, state, kernels, groupings)?;
         ternary_groups(alloc, predicate, truthy, falsy, kernels)
-    }
-
-    fn evaluate_inline(&self, alloc: Global) -> Px<Option<Column>> {
-        self.evaluate_inline_impl(alloc, 4)
     }
 
     fn evaluate_inline_impl(&self, alloc: Global, depth_limit: u8) -> Px<Option<Column>> {

@@ -28,6 +28,7 @@ use px_window::ExecutionState;
 use px_window_node::{place_window, window_parts};
 use std::alloc::Global;
 use std::marker::Model;
+use std::rc::Rc;
 use std::sync::ledger::Ledger;
 
 /// A node's values on the parts of the rows by other nodes (polars `WindowExpr`).
@@ -37,10 +38,10 @@ pub struct WindowExpr {
     group_by: Vec<PhysExpr>,
     order_by: Option<(Box<PhysExpr>, SortOptions)>,
     out_name: Option<Name>,
-    function: Expr,
+    function: Rc<Expr>,
     phys_function: Box<PhysExpr>,
     mapping: WindowMapping,
-    expr: Expr,
+    expr: Rc<Expr>,
 }
 
 impl Model for WindowExpr {
@@ -59,7 +60,7 @@ impl Model for WindowExpr {
 
     ghost view = { λ a. record { group_by = map plan_of a.group_by.items; order_by = order_of a.order_by; out_name = a.out_name; phys_function = plan_of a.phys_function.value; mapping = a.mapping } };
 
-    ghost invariant = { λ a. (tree a.expr ≡ window (under a.out_name (plan_of a.phys_function.value).tree) (plan_trees (map plan_of a.group_by.items)) (plan_order (order_of a.order_by)) a.mapping) × (tree a.function ≡ (plan_of a.phys_function.value).tree) };
+    ghost invariant = { λ a. (tree a.expr.value ≡ window (under a.out_name (plan_of a.phys_function.value).tree) (plan_trees (map plan_of a.group_by.items)) (plan_order (order_of a.order_by)) a.mapping) × (tree a.function.value ≡ (plan_of a.phys_function.value).tree) };
 
     ghost size = { window_size };
 
@@ -76,13 +77,13 @@ impl WindowExpr {
         group_by: Vec<PhysExpr>,
         order_by: Option<(Box<PhysExpr>, SortOptions)>,
         out_name: Option<Name>,
-        function: Expr,
+        function: Rc<Expr>,
         phys_function: Box<PhysExpr>,
         mapping: WindowMapping,
-        expr: Expr,
+        expr: Rc<Expr>,
     ) -> WindowExpr
-        requires tree { tree expr ≡ window (under out_name (plan_of phys_function.value).tree) (plan_trees (map plan_of group_by.items)) (plan_order (order_of order_by)) mapping }
-        requires function { tree function ≡ (plan_of phys_function.value).tree }
+        requires tree { tree expr.value ≡ window (under out_name (plan_of phys_function.value).tree) (plan_trees (map plan_of group_by.items)) (plan_order (order_of order_by)) mapping }
+        requires function { tree function.value ≡ (plan_of phys_function.value).tree }
         ensures { result ≡ record { group_by = map plan_of group_by.items; order_by = order_of order_by; out_name = out_name; phys_function = plan_of phys_function.value; mapping = mapping } }
     {
         WindowExpr {
@@ -314,10 +315,6 @@ impl PhysicalExpr for WindowExpr {
         let scope = scope_beside(alloc, df, state)?;
         type_of(alloc, &self.expr, &scope, Context::Aggregation)?;
         Err(PxError::InvalidOperation(InvalidWhy::WindowOnGroups))
-    }
-
-    fn evaluate_inline(&self, alloc: Global) -> Px<Option<Column>> {
-        self.evaluate_inline_impl(alloc, 4)
     }
 
     fn evaluate_inline_impl(&self, alloc: Global, depth_limit: u8) -> Px<Option<Column>> {

@@ -19,7 +19,7 @@ use std::sync::ledger::{Blank, Ledger};
 use std::test::Fail;
 
 fn literal(alloc: Global, value: LiteralValue) -> Px<PhysExpr> {
-    let expr = Expr::Literal(value.try_clone(alloc)?);
+    let expr = Rc::new(alloc, Expr::Literal(value.try_clone(alloc)?))?;
     Ok(PhysExpr::Literal(LiteralExpr::new(value, expr)))
 }
 
@@ -150,7 +150,7 @@ fn value(alloc: Global, node: &PhysExpr, df: &DataFrame) -> Px<Name> {
 }
 
 fn column(alloc: Global, name: &str, schema: SchemaRef) -> Px<PhysExpr> {
-    let expr = Expr::Column(Name::new(alloc, name)?);
+    let expr = Rc::new(alloc, Expr::Column(Name::new(alloc, name)?))?;
     let node = ColumnExpr::new(Name::new(alloc, name)?, expr, schema);
     Ok(PhysExpr::Column(node))
 }

@@ -7,6 +7,7 @@ ghost use Rattle.px_tree.specs.View.{tree};
 ghost use Rattle.px_physical.specs.NodeView.{plan_of};
 ghost use Rattle.px_answers.specs.Parts.{call_in, call_on, plan_trees, plan_columns};
 
+use crate::planner::nodes::share;
 use px_column::{DataType, Name, Px};
 use px_frame::{Field, SchemaRef};
 use px_physical::{ApplyExpr, PhysExpr, PhysicalExpr};
@@ -28,7 +29,7 @@ pub(crate) fn plan_apply(
 {
     let returns_scalar = is_scalar_call(function, &inputs);
     let output_field = no_field(alloc)?;
-    let expr = expr.try_clone(alloc)?;
+    let expr = share(alloc, expr)?;
     let input_schema = schema.clone()?;
     Ok(PhysExpr::Apply(ApplyExpr::new(
         inputs,

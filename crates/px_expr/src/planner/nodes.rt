@@ -18,22 +18,33 @@ use px_physical::{
 };
 use px_plan::{Expr, LiteralValue, WindowMapping};
 use std::alloc::Global;
+use std::rc::Rc;
+
+/// An equal expression, as a node keeps it: nodes hold it by its place, so that each stays small.
+pub(crate) fn share(alloc: Global, expr: &Expr) -> Px<Rc<Expr>>
+    ensures { AnswersBy (λ e. tree e.value) result (Ok (tree expr.now)) }
+{
+    let expr = expr.try_clone(alloc)?;
+    Ok(Rc::new(alloc, expr)?)
+}
 
 pub(crate) fn plan_column(alloc: Global, name: &Name, schema: &SchemaRef) -> Px<PhysExpr>
     ensures { AnswersBy plan_of result (Ok (planned_over schema.now.value (column name.now))) }
 {
     let read = name.try_clone(alloc)?;
+    let expr = Rc::new(alloc, Expr::Column(read))?;
     let name = name.try_clone(alloc)?;
     let schema = schema.clone()?;
-    Ok(PhysExpr::Column(ColumnExpr::new(name, Expr::Column(read), schema)))
+    Ok(PhysExpr::Column(ColumnExpr::new(name, expr, schema)))
 }
 
 pub(crate) fn plan_literal(alloc: Global, value: &LiteralValue) -> Px<PhysExpr>
     ensures { AnswersBy plan_of result (Ok (record { tree = literal (literal_of value.now); columns = [] })) }
 {
     let copy = value.try_clone(alloc)?;
+    let expr = Rc::new(alloc, Expr::Literal(copy))?;
     let value = value.try_clone(alloc)?;
-    Ok(PhysExpr::Literal(LiteralExpr::new(value, Expr::Literal(copy))))
+    Ok(PhysExpr::Literal(LiteralExpr::new(value, expr)))
 }
 
 /// A node under a name, with the expression that the node stands for.
@@ -41,6 +52,7 @@ pub(crate) fn plan_alias(alloc: Global, input: PhysExpr, name: &Name, expr: Expr
     requires { tree expr ≡ (plan_of input).tree }
     ensures { AnswersBy plan_of result (Ok (record (plan_of input) { tree = alias (plan_of input).tree name.now })) }
 {
+    let expr = Rc::new(alloc, expr)?;
     let name = name.try_clone(alloc)?;
     let input = Box::new(alloc, input)?;
     Ok(PhysExpr::Alias(AliasExpr::new(input, name, expr)))
@@ -57,7 +69,7 @@ pub(crate) fn plan_binary(
     requires { tree expr.now ≡ binary (plan_of left).tree op (plan_of right).tree }
     ensures { AnswersBy plan_of result (Ok (record { tree = tree expr.now; columns = (plan_of left).columns ++ (plan_of right).columns })) }
 {
-    let expr = expr.try_clone(alloc)?;
+    let expr = share(alloc, expr)?;
     let has_literal = left.is_literal() || right.is_literal();
     let is_scalar = left.is_scalar() && right.is_scalar();
     let left = Box::new(alloc, left)?;
@@ -76,7 +88,7 @@ pub(crate) fn plan_ternary(
     requires { tree expr.now ≡ ternary (plan_of predicate).tree (plan_of truthy).tree (plan_of falsy).tree }
     ensures { AnswersBy plan_of result (Ok (record { tree = tree expr.now; columns = (plan_of predicate).columns ++ ((plan_of truthy).columns ++ (plan_of falsy).columns) })) }
 {
-    let expr = expr.try_clone(alloc)?;
+    let expr = share(alloc, expr)?;
     let returns_scalar = predicate.is_scalar() && truthy.is_scalar() && falsy.is_scalar();
     let predicate = Box::new(alloc, predicate)?;
     let truthy = Box::new(alloc, truthy)?;
@@ -95,7 +107,7 @@ pub(crate) fn plan_cast(
     requires { tree expr.now ≡ cast (plan_of input).tree (kind_of dtype.now) options }
     ensures { AnswersBy plan_of result (Ok (record (plan_of input) { tree = tree expr.now })) }
 {
-    let expr = expr.try_clone(alloc)?;
+    let expr = share(alloc, expr)?;
     let dtype = dtype.try_clone(alloc)?;
     let input = Box::new(alloc, input)?;
     Ok(PhysExpr::Cast(CastExpr::new(input, dtype, options, expr)))
@@ -106,7 +118,7 @@ pub(crate) fn plan_filter(alloc: Global, input: PhysExpr, by: PhysExpr, expr: &E
     requires { tree expr.now ≡ filter (plan_of input).tree (plan_of by).tree }
     ensures { AnswersBy plan_of result (Ok (record { tree = tree expr.now; columns = (plan_of input).columns ++ (plan_of by).columns })) }
 {
-    let expr = expr.try_clone(alloc)?;
+    let expr = share(alloc, expr)?;
     let input = Box::new(alloc, input)?;
     let by = Box::new(alloc, by)?;
     Ok(PhysExpr::Filter(FilterExpr::new(input, by, expr)))
@@ -123,7 +135,7 @@ pub(crate) fn plan_slice(
     requires { tree expr.now ≡ slice (plan_of input).tree (plan_of offset).tree (plan_of length).tree }
     ensures { AnswersBy plan_of result (Ok (record { tree = tree expr.now; columns = (plan_of input).columns ++ ((plan_of offset).columns ++ (plan_of length).columns) })) }
 {
-    let expr = expr.try_clone(alloc)?;
+    let expr = share(alloc, expr)?;
     let input = Box::new(alloc, input)?;
     let offset = Box::new(alloc, offset)?;
     let length = Box::new(alloc, length)?;
@@ -141,7 +153,7 @@ pub(crate) fn plan_gather(
     requires { tree expr.now ≡ gather (plan_of input).tree (plan_of idx).tree returns_scalar }
     ensures { AnswersBy plan_of result (Ok (record { tree = tree expr.now; columns = (plan_of input).columns ++ (plan_of idx).columns })) }
 {
-    let expr = expr.try_clone(alloc)?;
+    let expr = share(alloc, expr)?;
     let input = Box::new(alloc, input)?;
     let idx = Box::new(alloc, idx)?;
     Ok(PhysExpr::Gather(GatherExpr::new(input, idx, expr, returns_scalar)))
@@ -157,7 +169,7 @@ pub(crate) fn plan_sort(
     requires { tree expr.now ≡ sort (plan_of input).tree options }
     ensures { AnswersBy plan_of result (Ok (record (plan_of input) { tree = tree expr.now })) }
 {
-    let expr = expr.try_clone(alloc)?;
+    let expr = share(alloc, expr)?;
     let input = Box::new(alloc, input)?;
     Ok(PhysExpr::Sort(SortExpr::new(input, options, expr)))
 }
@@ -173,7 +185,7 @@ pub(crate) fn plan_sort_by(
     requires { tree expr.now ≡ sort_by (plan_of input).tree (plan_trees (map plan_of by.items)) sort_options.now }
     ensures { AnswersBy plan_of result (Ok (record { tree = tree expr.now; columns = (plan_of input).columns ++ plan_columns (map plan_of by.items) })) }
 {
-    let expr = expr.try_clone(alloc)?;
+    let expr = share(alloc, expr)?;
     let sort_options = sort_options.try_clone(alloc)?;
     let input = Box::new(alloc, input)?;
     Ok(PhysExpr::SortBy(SortByExpr::new(input, by, expr, sort_options)))
@@ -219,7 +231,8 @@ pub(crate) fn plan_window(
         function,
         node,
     } = planned;
-    let expr = expr.try_clone(alloc)?;
+    let function = Rc::new(alloc, function)?;
+    let expr = share(alloc, expr)?;
     let node = Box::new(alloc, node)?;
     Ok(PhysExpr::Window(WindowExpr::new(
         group_by, order_by, out_name, function, node, mapping, expr,

@@ -13,9 +13,10 @@ use Rattle.px_physical.proofs.window.WindowExprPhysicalExpr.evaluate_on_groups.G
 pub returns-in_err-type_of-clause-causes : goal.returns-in_err-type_of-clause-causes
 returns-in_err-type_of-clause-causes g c =
     let p = err_from_is_err_and c.from_residual-in_err-type_of.result c.from_residual-in_err-type_of.ensures.1 in
-    let expr : tree c.self.inside.expr ≡ (window_plan c.args.self.now).tree = c.self.invariant.0 ∙ ap (λ (w : PlannedWindow). (window_plan w).tree) c.self.view_is in
+    let kept : tree c.self.inside.expr.value ≡ (window_plan c.args.self.now).tree = c.self.invariant.0 ∙ ap (λ (w : PlannedWindow). (window_plan w).tree) c.self.view_is in
+    let expr : tree c.deref.result.now ≡ (window_plan c.args.self.now).tree = cc (c.deref.ensures, kept) in
     let scope : c.in_ok-scope.scope ≡ scope_of (beside c.args.df.now c.args.state.now) = search rules in
-    let told = subst (λ s. Refuses c.in_err-type_of.field-0.0 (type_of (tree c.self.inside.expr) s Aggregation)) scope c.in_err-type_of.ensures in
+    let told = subst (λ s. Refuses c.in_err-type_of.field-0.0 (type_of (tree c.deref.result.now) s Aggregation)) scope c.in_err-type_of.ensures in
     rw (p.1, p.2)
     (window_refused c.args.self.now (beside c.args.df.now c.args.state.now) c.args.groups.now c.in_err-type_of.field-0.0
     (subst (λ t. Refuses c.in_err-type_of.field-0.0 (type_of t (scope_of (beside c.args.df.now c.args.state.now)) Aggregation)) expr told))
