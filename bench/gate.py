@@ -17,8 +17,10 @@ def fields(pid):
 
 
 def words(pid):
+    """What a process was called with, and where it runs: an edit is tried in a folder of its own."""
     with open(f"/proc/{pid}/cmdline", "rb") as it:
-        return it.read().replace(b"\0", b" ").decode(errors="replace")
+        line = it.read().replace(b"\0", b" ").decode(errors="replace")
+    return f"{line} {os.readlink(f'/proc/{pid}/cwd')}"
 
 
 def work_of(line):
@@ -26,7 +28,7 @@ def work_of(line):
     crate = re.search(r"--crate-name (\w+)", line)
     if not crate:
         return None
-    kind = "edits" if "rt-edits-" in line else "tests" if " --test" in line else "proof"
+    kind = "edits" if "/rt-edit" in line else "tests" if " --test" in line else "proof"
     return crate[1], kind
 
 
