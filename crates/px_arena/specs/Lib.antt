@@ -1,3 +1,2 @@
 pub mod Arena
 pub mod Named
-pub mod Adding

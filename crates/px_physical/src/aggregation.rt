@@ -3,6 +3,7 @@ ghost use Rattle.std.specs.Prelude.{◌≡◌, option_map};
 ghost use Rattle.px_frame.specs.SchemaView.{field_kind};
 ghost use Rattle.px_physical.specs.NodeView.{plan_of};
 
+use crate::child::Child;
 use crate::on_groups::accept_reduction;
 use crate::phys_expr::{PhysExpr, evaluate_cell};
 use crate::physical::PhysicalExpr;
@@ -29,7 +30,7 @@ pub struct AggregationType {
 #[cycle(node)]
 #[derive(Drop)]
 pub struct AggregationExpr {
-    expr: Box<PhysExpr>,
+    expr: Child,
     agg_type: AggregationType,
     field: Option<Field>,
 }
@@ -46,7 +47,7 @@ impl Model for AggregationExpr {
     ghost use Rattle.px_physical.specs.NodeView.{plan_of};
     ghost use Rattle.px_physical.specs.Size.{reduction_size};
 
-    ghost view = { λ a. record { input = plan_of a.expr.value; method = a.agg_type.groupby; field = option_map field_kind a.field } };
+    ghost view = { λ a. record { input = plan_of a.expr.node.value; method = a.agg_type.groupby; field = option_map field_kind a.field } };
 
     ghost size = { reduction_size };
 
@@ -67,7 +68,7 @@ impl AggregationExpr {
         ensures field { result.field ≡ option_map field_kind field }
     {
         AggregationExpr {
-            expr,
+            expr: Child { node: expr },
             agg_type,
             field,
         }
@@ -77,7 +78,7 @@ impl AggregationExpr {
     pub fn expr(&self) -> &PhysExpr
         ensures { plan_of result.now ≡ self.now.input }
     {
-        &self.expr
+        &self.expr.node
     }
 
     /// How it is reduced.
@@ -114,7 +115,7 @@ impl PhysicalExpr for AggregationExpr {
         kernels: &mut Steps<L>,
         groupings: &mut Steps<M>,
     ) -> Px<Column> {
-        let input = evaluate_cell(alloc, &self.expr, df, state, kernels, groupings)?;
+        let input = evaluate_cell(alloc, &self.expr.node, df, state, kernels, groupings)?;
         Ok(aggregation_cells(alloc, input, self.agg_type.groupby, kernels)?.into_column())
     }
 
@@ -131,8 +132,9 @@ impl PhysicalExpr for AggregationExpr {
     ) -> Px<AggregationContext<'a>> {
         let input = self
             .expr
+            .node
             .evaluate_on_groups(alloc, df, groups, state, kernels, groupings)?;
-        accept_reduction(&self.expr, self.agg_type.groupby)?;
+        accept_reduction(&self.expr.node, self.agg_type.groupby)?;
         aggregation_groups(alloc, input, self.agg_type.groupby, kernels)
     }
 
@@ -143,7 +145,7 @@ impl PhysicalExpr for AggregationExpr {
 
     #[cycle(field)]
     fn to_field(&self, alloc: Global, input_schema: &Schema) -> Px<Field> {
-        let field = self.expr.to_field(alloc, input_schema)?;
+        let field = self.expr.node.to_field(alloc, input_schema)?;
         let dtype = reduced_type(alloc, self.agg_type.groupby, field.dtype)?;
         let name = field.name;
         Ok(Field { name, dtype })
@@ -151,7 +153,7 @@ impl PhysicalExpr for AggregationExpr {
 
     #[cycle(live)]
     fn collect_live_columns(&self, alloc: Global, lv: &mut IndexSet<Name>) -> Px<()> {
-        self.expr.collect_live_columns(alloc, lv)
+        self.expr.node.collect_live_columns(alloc, lv)
     }
 
     fn is_literal(&self) -> bool {

@@ -5,6 +5,7 @@ ghost use Rattle.px_tree.specs.Tree.{alias};
 ghost use Rattle.px_tree.specs.View.{tree};
 ghost use Rattle.px_physical.specs.NodeView.{plan_of};
 
+use crate::child::Child;
 use crate::phys_expr::PhysExpr;
 use crate::physical::PhysicalExpr;
 use indexmap::IndexSet;
@@ -22,7 +23,7 @@ use std::sync::ledger::Ledger;
 #[cycle(node)]
 #[derive(Drop)]
 pub struct AliasExpr {
-    physical_expr: Box<PhysExpr>,
+    physical_expr: Child,
     name: Name,
     expr: Rc<Expr>,
 }
@@ -40,9 +41,9 @@ impl Model for AliasExpr {
     ghost use Rattle.px_physical.specs.NodeView.{plan_of};
     ghost use Rattle.px_physical.specs.Size.{plan_size};
 
-    ghost view = { λ a. record { tree = alias (plan_of a.physical_expr.value).tree a.name; columns = (plan_of a.physical_expr.value).columns } };
+    ghost view = { λ a. record { tree = alias (plan_of a.physical_expr.node.value).tree a.name; columns = (plan_of a.physical_expr.node.value).columns } };
 
-    ghost invariant = { λ a. tree a.expr.value ≡ (plan_of a.physical_expr.value).tree };
+    ghost invariant = { λ a. tree a.expr.value ≡ (plan_of a.physical_expr.node.value).tree };
 
     ghost size = { plan_size };
 
@@ -59,7 +60,9 @@ impl AliasExpr {
         ensures columns { result.columns ≡ (plan_of physical_expr.value).columns }
     {
         AliasExpr {
-            physical_expr,
+            physical_expr: Child {
+                node: physical_expr,
+            },
             name,
             expr,
         }
@@ -70,7 +73,7 @@ impl AliasExpr {
         ensures tree { self.now.tree ≡ alias (plan_of result.now).tree (name_of self.now.tree) }
         ensures columns { self.now.columns ≡ (plan_of result.now).columns }
     {
-        &self.physical_expr
+        &self.physical_expr.node
     }
 
     /// The name.
@@ -107,6 +110,7 @@ impl PhysicalExpr for AliasExpr {
         let name = self.name.try_clone(alloc)?;
         let column = self
             .physical_expr
+            .node
             .evaluate(alloc, df, state, kernels, groupings)?;
         Ok(column.with_name(name))
     }
@@ -125,6 +129,7 @@ impl PhysicalExpr for AliasExpr {
         let name = self.name.try_clone(alloc)?;
         let context = self
             .physical_expr
+            .node
             .evaluate_on_groups(alloc, df, groups, state, kernels, groupings)?;
         context.with_name(alloc, name)
     }
@@ -132,7 +137,7 @@ impl PhysicalExpr for AliasExpr {
     #[cycle(inline)]
     #[tactic(auto, using(crate::proofs::Inlined::alias_inline, crate::proofs::Inlined::not_inline))]
     fn evaluate_inline_impl(&self, alloc: Global, depth_limit: u8) -> Px<Option<Column>> {
-        let input = &self.physical_expr;
+        let input = &self.physical_expr.node;
         if depth_limit == 0 {
             return Ok(None);
         }
@@ -145,26 +150,26 @@ impl PhysicalExpr for AliasExpr {
     #[cycle(field)]
     fn to_field(&self, alloc: Global, input_schema: &Schema) -> Px<Field> {
         let name = self.name.try_clone(alloc)?;
-        let field = self.physical_expr.to_field(alloc, input_schema)?;
+        let field = self.physical_expr.node.to_field(alloc, input_schema)?;
         let dtype = field.dtype;
         Ok(Field { name, dtype })
     }
 
     #[cycle(live)]
     fn collect_live_columns(&self, alloc: Global, lv: &mut IndexSet<Name>) -> Px<()> {
-        self.physical_expr.collect_live_columns(alloc, lv)?;
+        self.physical_expr.node.collect_live_columns(alloc, lv)?;
         lv.insert_full(self.name.try_clone(alloc)?)?;
         Ok(())
     }
 
     #[cycle(literal)]
     fn is_literal(&self) -> bool {
-        self.physical_expr.is_literal()
+        self.physical_expr.node.is_literal()
     }
 
     #[cycle(scalar)]
     fn is_scalar(&self) -> bool {
-        self.physical_expr.is_scalar()
+        self.physical_expr.node.is_scalar()
     }
 
     fn is_partitioned_aggregator(&self) -> bool {

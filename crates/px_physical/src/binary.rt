@@ -6,6 +6,7 @@ ghost use Rattle.px_tree.specs.View.{tree};
 ghost use Rattle.px_physical.specs.NodeView.{plan_of};
 ghost use Rattle.px_answers.specs.Parts.{binary_plan};
 
+use crate::child::Child;
 use crate::phys_expr::{PhysExpr, evaluate_cell};
 use crate::physical::{PhysicalExpr, expression_field};
 use indexmap::IndexSet;
@@ -25,9 +26,9 @@ use std::sync::ledger::Ledger;
 #[cycle(node)]
 #[derive(Drop)]
 pub struct BinaryExpr {
-    left: Box<PhysExpr>,
+    left: Child,
     op: Operator,
-    right: Box<PhysExpr>,
+    right: Child,
     expr: Rc<Expr>,
     has_literal: bool,
     is_scalar: bool,
@@ -47,9 +48,9 @@ impl Model for BinaryExpr {
     ghost use Rattle.px_physical.specs.NodeView.{plan_of};
     ghost use Rattle.px_physical.specs.Size.{binary_size};
 
-    ghost view = { λ a. record { left = plan_of a.left.value; op = a.op; right = plan_of a.right.value; has_literal = a.has_literal } };
+    ghost view = { λ a. record { left = plan_of a.left.node.value; op = a.op; right = plan_of a.right.node.value; has_literal = a.has_literal } };
 
-    ghost invariant = { λ a. (tree a.expr.value ≡ binary (plan_of a.left.value).tree a.op (plan_of a.right.value).tree) × (a.is_scalar ≡ is_unit (tree a.expr.value)) };
+    ghost invariant = { λ a. (tree a.expr.value ≡ binary (plan_of a.left.node.value).tree a.op (plan_of a.right.node.value).tree) × (a.is_scalar ≡ is_unit (tree a.expr.value)) };
 
     ghost size = { binary_size };
 
@@ -74,9 +75,9 @@ impl BinaryExpr {
         ensures { result ≡ record { left = plan_of left.value; op = op; right = plan_of right.value; has_literal = has_literal } }
     {
         BinaryExpr {
-            left,
+            left: Child { node: left },
             op,
-            right,
+            right: Child { node: right },
             expr,
             has_literal,
             is_scalar,
@@ -87,7 +88,7 @@ impl BinaryExpr {
     pub fn left(&self) -> &PhysExpr
         ensures { plan_of result.now ≡ self.now.left }
     {
-        &self.left
+        &self.left.node
     }
 
     /// The operator.
@@ -101,7 +102,7 @@ impl BinaryExpr {
     pub fn right(&self) -> &PhysExpr
         ensures { plan_of result.now ≡ self.now.right }
     {
-        &self.right
+        &self.right.node
     }
 
     /// Whether an operand is a literal, as the node was told.
@@ -138,8 +139,8 @@ impl PhysicalExpr for BinaryExpr {
         kernels: &mut Steps<L>,
         groupings: &mut Steps<M>,
     ) -> Px<Column> {
-        let left = evaluate_cell(alloc, &self.left, df, state, kernels, groupings)?;
-        let right = evaluate_cell(alloc, &self.right, df, state, kernels, groupings)?;
+        let left = evaluate_cell(alloc, &self.left.node, df, state, kernels, groupings)?;
+        let right = evaluate_cell(alloc, &self.right.node, df, state, kernels, groupings)?;
         Ok(binary_cells(alloc, left, right, self.op, kernels)?.into_column())
     }
 
@@ -156,9 +157,11 @@ impl PhysicalExpr for BinaryExpr {
     ) -> Px<AggregationContext<'a>> {
         let left = self
             .left
+            .node
             .evaluate_on_groups(alloc, df, groups, state, kernels, groupings)?;
         let right = self
             .right
+            .node
             .evaluate_on_groups(alloc, df, groups, state, kernels, groupings)?;
         binary_groups(alloc, left, right, self.op, kernels)
     }
@@ -174,8 +177,8 @@ impl PhysicalExpr for BinaryExpr {
 
     #[cycle(live)]
     fn collect_live_columns(&self, alloc: Global, lv: &mut IndexSet<Name>) -> Px<()> {
-        self.left.collect_live_columns(alloc, lv)?;
-        self.right.collect_live_columns(alloc, lv)
+        self.left.node.collect_live_columns(alloc, lv)?;
+        self.right.node.collect_live_columns(alloc, lv)
     }
 
     fn is_literal(&self) -> bool {

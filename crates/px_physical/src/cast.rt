@@ -6,6 +6,7 @@ ghost use Rattle.px_tree.specs.View.{tree};
 ghost use Rattle.px_physical.specs.NodeView.{plan_of};
 ghost use Rattle.px_answers.specs.Parts.{cast_plan};
 
+use crate::child::Child;
 use crate::inline::{inline_cast, inline_cell};
 use crate::phys_expr::{PhysExpr, evaluate_cell};
 use crate::physical::{PhysicalExpr, expression_field};
@@ -26,7 +27,7 @@ use std::sync::ledger::Ledger;
 #[cycle(node)]
 #[derive(Drop)]
 pub struct CastExpr {
-    input: Box<PhysExpr>,
+    input: Child,
     dtype: DataType,
     options: CastOptions,
     expr: Rc<Expr>,
@@ -46,9 +47,9 @@ impl Model for CastExpr {
     ghost use Rattle.px_physical.specs.NodeView.{plan_of};
     ghost use Rattle.px_physical.specs.Size.{cast_size};
 
-    ghost view = { λ a. record { input = plan_of a.input.value; dtype = kind_of a.dtype; options = a.options } };
+    ghost view = { λ a. record { input = plan_of a.input.node.value; dtype = kind_of a.dtype; options = a.options } };
 
-    ghost invariant = { λ a. tree a.expr.value ≡ cast (plan_of a.input.value).tree (kind_of a.dtype) a.options };
+    ghost invariant = { λ a. tree a.expr.value ≡ cast (plan_of a.input.node.value).tree (kind_of a.dtype) a.options };
 
     ghost size = { cast_size };
 
@@ -69,7 +70,7 @@ impl CastExpr {
         ensures { result ≡ record { input = plan_of input.value; dtype = kind_of dtype; options = options } }
     {
         CastExpr {
-            input,
+            input: Child { node: input },
             dtype,
             options,
             expr,
@@ -80,7 +81,7 @@ impl CastExpr {
     pub fn input(&self) -> &PhysExpr
         ensures { plan_of result.now ≡ self.now.input }
     {
-        &self.input
+        &self.input.node
     }
 
     /// The new type.
@@ -124,7 +125,7 @@ impl PhysicalExpr for CastExpr {
         kernels: &mut Steps<L>,
         groupings: &mut Steps<M>,
     ) -> Px<Column> {
-        let input = evaluate_cell(alloc, &self.input, df, state, kernels, groupings)?;
+        let input = evaluate_cell(alloc, &self.input.node, df, state, kernels, groupings)?;
         Ok(cast_cells(alloc, input, &self.dtype, self.options, kernels)?.into_column())
     }
 
@@ -141,6 +142,7 @@ impl PhysicalExpr for CastExpr {
     ) -> Px<AggregationContext<'a>> {
         let input = self
             .input
+            .node
             .evaluate_on_groups(alloc, df, groups, state, kernels, groupings)?;
         cast_groups(alloc, input, &self.dtype, self.options, kernels)
     }
@@ -148,7 +150,7 @@ impl PhysicalExpr for CastExpr {
     #[cycle(inline)]
     #[tactic(auto, using(crate::proofs::Inlined::cast_inline, crate::proofs::Inlined::cast_nothing, crate::proofs::Inlined::not_inline))]
     fn evaluate_inline_impl(&self, alloc: Global, depth_limit: u8) -> Px<Option<Column>> {
-        let input = &self.input;
+        let input = &self.input.node;
         if depth_limit == 0 {
             return Ok(None);
         }
@@ -164,7 +166,7 @@ impl PhysicalExpr for CastExpr {
 
     #[cycle(live)]
     fn collect_live_columns(&self, alloc: Global, lv: &mut IndexSet<Name>) -> Px<()> {
-        self.input.collect_live_columns(alloc, lv)
+        self.input.node.collect_live_columns(alloc, lv)
     }
 
     fn is_literal(&self) -> bool {
@@ -174,7 +176,7 @@ impl PhysicalExpr for CastExpr {
 
     #[cycle(scalar)]
     fn is_scalar(&self) -> bool {
-        self.input.is_scalar()
+        self.input.node.is_scalar()
     }
 
     fn is_partitioned_aggregator(&self) -> bool {

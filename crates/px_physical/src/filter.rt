@@ -5,6 +5,7 @@ ghost use Rattle.px_tree.specs.View.{tree};
 ghost use Rattle.px_physical.specs.NodeView.{plan_of};
 ghost use Rattle.px_answers.specs.Parts.{filter_plan};
 
+use crate::child::Child;
 use crate::on_groups::accept_rows;
 use crate::phys_expr::{PhysExpr, evaluate_cell};
 use crate::physical::{PhysicalExpr, expression_field};
@@ -25,8 +26,8 @@ use std::sync::ledger::Ledger;
 #[cycle(node)]
 #[derive(Drop)]
 pub struct FilterExpr {
-    input: Box<PhysExpr>,
-    by: Box<PhysExpr>,
+    input: Child,
+    by: Child,
     expr: Rc<Expr>,
 }
 
@@ -43,9 +44,9 @@ impl Model for FilterExpr {
     ghost use Rattle.px_physical.specs.NodeView.{plan_of};
     ghost use Rattle.px_physical.specs.Size.{filter_size};
 
-    ghost view = { λ a. record { input = plan_of a.input.value; by = plan_of a.by.value } };
+    ghost view = { λ a. record { input = plan_of a.input.node.value; by = plan_of a.by.node.value } };
 
-    ghost invariant = { λ a. tree a.expr.value ≡ filter (plan_of a.input.value).tree (plan_of a.by.value).tree };
+    ghost invariant = { λ a. tree a.expr.value ≡ filter (plan_of a.input.node.value).tree (plan_of a.by.node.value).tree };
 
     ghost size = { filter_size };
 
@@ -60,21 +61,25 @@ impl FilterExpr {
         requires tree { tree expr.value ≡ filter (plan_of input.value).tree (plan_of by.value).tree }
         ensures { result ≡ record { input = plan_of input.value; by = plan_of by.value } }
     {
-        FilterExpr { input, by, expr }
+        FilterExpr {
+            input: Child { node: input },
+            by: Child { node: by },
+            expr,
+        }
     }
 
     /// The node whose rows are kept or dropped.
     pub fn input(&self) -> &PhysExpr
         ensures { plan_of result.now ≡ self.now.input }
     {
-        &self.input
+        &self.input.node
     }
 
     /// The mask.
     pub fn by(&self) -> &PhysExpr
         ensures { plan_of result.now ≡ self.now.by }
     {
-        &self.by
+        &self.by.node
     }
 
     /// The expression.
@@ -104,8 +109,8 @@ impl PhysicalExpr for FilterExpr {
         kernels: &mut Steps<L>,
         groupings: &mut Steps<M>,
     ) -> Px<Column> {
-        let input = evaluate_cell(alloc, &self.input, df, state, kernels, groupings)?;
-        let by = evaluate_cell(alloc, &self.by, df, state, kernels, groupings)?;
+        let input = evaluate_cell(alloc, &self.input.node, df, state, kernels, groupings)?;
+        let by = evaluate_cell(alloc, &self.by.node, df, state, kernels, groupings)?;
         Ok(filter_cells(alloc, input, by, kernels)?.into_column())
     }
 
@@ -122,11 +127,13 @@ impl PhysicalExpr for FilterExpr {
     ) -> Px<AggregationContext<'a>> {
         let input = self
             .input
+            .node
             .evaluate_on_groups(alloc, df, groups, state, kernels, groupings)?;
         let by = self
             .by
+            .node
             .evaluate_on_groups(alloc, df, groups, state, kernels, groupings)?;
-        accept_rows(&self.input)?;
+        accept_rows(&self.input.node)?;
         filter_groups(alloc, input, by, kernels)
     }
 
@@ -141,8 +148,8 @@ impl PhysicalExpr for FilterExpr {
 
     #[cycle(live)]
     fn collect_live_columns(&self, alloc: Global, lv: &mut IndexSet<Name>) -> Px<()> {
-        self.input.collect_live_columns(alloc, lv)?;
-        self.by.collect_live_columns(alloc, lv)
+        self.input.node.collect_live_columns(alloc, lv)?;
+        self.by.node.collect_live_columns(alloc, lv)
     }
 
     fn is_literal(&self) -> bool {

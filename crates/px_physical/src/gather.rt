@@ -6,6 +6,7 @@ ghost use Rattle.px_tree.specs.View.{tree};
 ghost use Rattle.px_physical.specs.NodeView.{plan_of};
 ghost use Rattle.px_answers.specs.Parts.{gather_plan};
 
+use crate::child::Child;
 use crate::on_groups::accept_rows;
 use crate::phys_expr::{PhysExpr, evaluate_cell, has_literals_alone};
 use crate::physical::{PhysicalExpr, expression_field};
@@ -26,8 +27,8 @@ use std::sync::ledger::Ledger;
 #[cycle(node)]
 #[derive(Drop)]
 pub struct GatherExpr {
-    phys_expr: Box<PhysExpr>,
-    idx: Box<PhysExpr>,
+    phys_expr: Child,
+    idx: Child,
     expr: Rc<Expr>,
     returns_scalar: bool,
 }
@@ -45,9 +46,9 @@ impl Model for GatherExpr {
     ghost use Rattle.px_physical.specs.NodeView.{plan_of};
     ghost use Rattle.px_physical.specs.Size.{gather_size};
 
-    ghost view = { λ a. record { phys_expr = plan_of a.phys_expr.value; idx = plan_of a.idx.value; returns_scalar = a.returns_scalar } };
+    ghost view = { λ a. record { phys_expr = plan_of a.phys_expr.node.value; idx = plan_of a.idx.node.value; returns_scalar = a.returns_scalar } };
 
-    ghost invariant = { λ a. tree a.expr.value ≡ gather (plan_of a.phys_expr.value).tree (plan_of a.idx.value).tree a.returns_scalar };
+    ghost invariant = { λ a. tree a.expr.value ≡ gather (plan_of a.phys_expr.node.value).tree (plan_of a.idx.node.value).tree a.returns_scalar };
 
     ghost size = { gather_size };
 
@@ -69,8 +70,8 @@ impl GatherExpr {
         ensures { result ≡ record { phys_expr = plan_of phys_expr.value; idx = plan_of idx.value; returns_scalar = returns_scalar } }
     {
         GatherExpr {
-            phys_expr,
-            idx,
+            phys_expr: Child { node: phys_expr },
+            idx: Child { node: idx },
             expr,
             returns_scalar,
         }
@@ -80,14 +81,14 @@ impl GatherExpr {
     pub fn phys_expr(&self) -> &PhysExpr
         ensures { plan_of result.now ≡ self.now.phys_expr }
     {
-        &self.phys_expr
+        &self.phys_expr.node
     }
 
     /// The indices; negative ones count from the end.
     pub fn idx(&self) -> &PhysExpr
         ensures { plan_of result.now ≡ self.now.idx }
     {
-        &self.idx
+        &self.idx.node
     }
 
     /// The expression.
@@ -124,9 +125,9 @@ impl PhysicalExpr for GatherExpr {
         kernels: &mut Steps<L>,
         groupings: &mut Steps<M>,
     ) -> Px<Column> {
-        let input = evaluate_cell(alloc, &self.phys_expr, df, state, kernels, groupings)?;
-        let idx = evaluate_cell(alloc, &self.idx, df, state, kernels, groupings)?;
-        let is_literal = has_literals_alone(&self.idx);
+        let input = evaluate_cell(alloc, &self.phys_expr.node, df, state, kernels, groupings)?;
+        let idx = evaluate_cell(alloc, &self.idx.node, df, state, kernels, groupings)?;
+        let is_literal = has_literals_alone(&self.idx.node);
         let rows = gather_cells(alloc, input, idx, self.returns_scalar, is_literal, kernels)?;
         Ok(rows.into_column())
     }
@@ -144,12 +145,14 @@ impl PhysicalExpr for GatherExpr {
     ) -> Px<AggregationContext<'a>> {
         let input = self
             .phys_expr
+            .node
             .evaluate_on_groups(alloc, df, groups, state, kernels, groupings)?;
         let idx = self
             .idx
+            .node
             .evaluate_on_groups(alloc, df, groups, state, kernels, groupings)?;
-        accept_rows(&self.phys_expr)?;
-        let is_literal = has_literals_alone(&self.idx);
+        accept_rows(&self.phys_expr.node)?;
+        let is_literal = has_literals_alone(&self.idx.node);
         gather_groups(alloc, input, idx, self.returns_scalar, is_literal, kernels)
     }
 
@@ -164,8 +167,8 @@ impl PhysicalExpr for GatherExpr {
 
     #[cycle(live)]
     fn collect_live_columns(&self, alloc: Global, lv: &mut IndexSet<Name>) -> Px<()> {
-        self.phys_expr.collect_live_columns(alloc, lv)?;
-        self.idx.collect_live_columns(alloc, lv)
+        self.phys_expr.node.collect_live_columns(alloc, lv)?;
+        self.idx.node.collect_live_columns(alloc, lv)
     }
 
     fn is_literal(&self) -> bool {

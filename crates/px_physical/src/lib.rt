@@ -6,6 +6,7 @@ mod alias;
 mod apply;
 mod binary;
 mod cast;
+mod child;
 mod column;
 mod count;
 mod filter;

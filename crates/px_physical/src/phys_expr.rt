@@ -73,6 +73,7 @@ pub enum PhysExpr {
 
 /// One call where a node is let go, so that proofs see no case of it.
 impl Drop for PhysExpr {
+    #[cycle(drop_node)]
     fn drop(self) {
         match self {
             PhysExpr::Column(_node) => {}

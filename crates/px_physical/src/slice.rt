@@ -5,6 +5,7 @@ ghost use Rattle.px_tree.specs.View.{tree};
 ghost use Rattle.px_physical.specs.NodeView.{plan_of};
 ghost use Rattle.px_answers.specs.Parts.{slice_plan};
 
+use crate::child::Child;
 use crate::on_groups::accept_slice;
 use crate::phys_expr::{PhysExpr, evaluate_cell};
 use crate::physical::{PhysicalExpr, expression_field};
@@ -25,9 +26,9 @@ use std::sync::ledger::Ledger;
 #[cycle(node)]
 #[derive(Drop)]
 pub struct SliceExpr {
-    input: Box<PhysExpr>,
-    offset: Box<PhysExpr>,
-    length: Box<PhysExpr>,
+    input: Child,
+    offset: Child,
+    length: Child,
     expr: Rc<Expr>,
 }
 
@@ -44,9 +45,9 @@ impl Model for SliceExpr {
     ghost use Rattle.px_physical.specs.NodeView.{plan_of};
     ghost use Rattle.px_physical.specs.Size.{slice_size};
 
-    ghost view = { λ a. record { input = plan_of a.input.value; offset = plan_of a.offset.value; length = plan_of a.length.value } };
+    ghost view = { λ a. record { input = plan_of a.input.node.value; offset = plan_of a.offset.node.value; length = plan_of a.length.node.value } };
 
-    ghost invariant = { λ a. tree a.expr.value ≡ slice (plan_of a.input.value).tree (plan_of a.offset.value).tree (plan_of a.length.value).tree };
+    ghost invariant = { λ a. tree a.expr.value ≡ slice (plan_of a.input.node.value).tree (plan_of a.offset.node.value).tree (plan_of a.length.node.value).tree };
 
     ghost size = { slice_size };
 
@@ -67,9 +68,9 @@ impl SliceExpr {
         ensures { result ≡ record { input = plan_of input.value; offset = plan_of offset.value; length = plan_of length.value } }
     {
         SliceExpr {
-            input,
-            offset,
-            length,
+            input: Child { node: input },
+            offset: Child { node: offset },
+            length: Child { node: length },
             expr,
         }
     }
@@ -78,21 +79,21 @@ impl SliceExpr {
     pub fn input(&self) -> &PhysExpr
         ensures { plan_of result.now ≡ self.now.input }
     {
-        &self.input
+        &self.input.node
     }
 
     /// The first row; a negative one counts from the end.
     pub fn offset(&self) -> &PhysExpr
         ensures { plan_of result.now ≡ self.now.offset }
     {
-        &self.offset
+        &self.offset.node
     }
 
     /// The number of rows; a null is no limit.
     pub fn length(&self) -> &PhysExpr
         ensures { plan_of result.now ≡ self.now.length }
     {
-        &self.length
+        &self.length.node
     }
 
     /// The expression.
@@ -122,9 +123,9 @@ impl PhysicalExpr for SliceExpr {
         kernels: &mut Steps<L>,
         groupings: &mut Steps<M>,
     ) -> Px<Column> {
-        let input = evaluate_cell(alloc, &self.input, df, state, kernels, groupings)?;
-        let offset = evaluate_cell(alloc, &self.offset, df, state, kernels, groupings)?;
-        let length = evaluate_cell(alloc, &self.length, df, state, kernels, groupings)?;
+        let input = evaluate_cell(alloc, &self.input.node, df, state, kernels, groupings)?;
+        let offset = evaluate_cell(alloc, &self.offset.node, df, state, kernels, groupings)?;
+        let length = evaluate_cell(alloc, &self.length.node, df, state, kernels, groupings)?;
         Ok(slice_cells(alloc, input, offset, length, kernels)?.into_column())
     }
 
@@ -141,14 +142,17 @@ impl PhysicalExpr for SliceExpr {
     ) -> Px<AggregationContext<'a>> {
         let input = self
             .input
+            .node
             .evaluate_on_groups(alloc, df, groups, state, kernels, groupings)?;
         let offset = self
             .offset
+            .node
             .evaluate_on_groups(alloc, df, groups, state, kernels, groupings)?;
         let length = self
             .length
+            .node
             .evaluate_on_groups(alloc, df, groups, state, kernels, groupings)?;
-        accept_slice(&self.input, &self.offset, &self.length)?;
+        accept_slice(&self.input.node, &self.offset.node, &self.length.node)?;
         slice_groups(alloc, input, offset, length, kernels)
     }
 
@@ -163,9 +167,9 @@ impl PhysicalExpr for SliceExpr {
 
     #[cycle(live)]
     fn collect_live_columns(&self, alloc: Global, lv: &mut IndexSet<Name>) -> Px<()> {
-        self.input.collect_live_columns(alloc, lv)?;
-        self.offset.collect_live_columns(alloc, lv)?;
-        self.length.collect_live_columns(alloc, lv)
+        self.input.node.collect_live_columns(alloc, lv)?;
+        self.offset.node.collect_live_columns(alloc, lv)?;
+        self.length.node.collect_live_columns(alloc, lv)
     }
 
     fn is_literal(&self) -> bool {

@@ -5,6 +5,7 @@ ghost use Rattle.px_tree.specs.View.{tree};
 ghost use Rattle.px_physical.specs.NodeView.{plan_of};
 ghost use Rattle.px_answers.specs.Parts.{sort_plan};
 
+use crate::child::Child;
 use crate::on_groups::accept_rows;
 use crate::phys_expr::{PhysExpr, evaluate_cell};
 use crate::physical::{PhysicalExpr, expression_field};
@@ -25,7 +26,7 @@ use std::sync::ledger::Ledger;
 #[cycle(node)]
 #[derive(Drop)]
 pub struct SortExpr {
-    physical_expr: Box<PhysExpr>,
+    physical_expr: Child,
     options: SortOptions,
     expr: Rc<Expr>,
 }
@@ -43,9 +44,9 @@ impl Model for SortExpr {
     ghost use Rattle.px_physical.specs.NodeView.{plan_of};
     ghost use Rattle.px_physical.specs.Size.{sort_size};
 
-    ghost view = { λ a. record { physical_expr = plan_of a.physical_expr.value; options = a.options } };
+    ghost view = { λ a. record { physical_expr = plan_of a.physical_expr.node.value; options = a.options } };
 
-    ghost invariant = { λ a. tree a.expr.value ≡ sort (plan_of a.physical_expr.value).tree a.options };
+    ghost invariant = { λ a. tree a.expr.value ≡ sort (plan_of a.physical_expr.node.value).tree a.options };
 
     ghost size = { sort_size };
 
@@ -61,7 +62,9 @@ impl SortExpr {
         ensures { result ≡ record { physical_expr = plan_of physical_expr.value; options = options } }
     {
         SortExpr {
-            physical_expr,
+            physical_expr: Child {
+                node: physical_expr,
+            },
             options,
             expr,
         }
@@ -71,7 +74,7 @@ impl SortExpr {
     pub fn physical_expr(&self) -> &PhysExpr
         ensures { plan_of result.now ≡ self.now.physical_expr }
     {
-        &self.physical_expr
+        &self.physical_expr.node
     }
 
     /// How they are sorted.
@@ -108,7 +111,14 @@ impl PhysicalExpr for SortExpr {
         kernels: &mut Steps<L>,
         groupings: &mut Steps<M>,
     ) -> Px<Column> {
-        let input = evaluate_cell(alloc, &self.physical_expr, df, state, kernels, groupings)?;
+        let input = evaluate_cell(
+            alloc,
+            &self.physical_expr.node,
+            df,
+            state,
+            kernels,
+            groupings,
+        )?;
         Ok(sort_cells(alloc, input, self.options, kernels)?.into_column())
     }
 
@@ -125,8 +135,9 @@ impl PhysicalExpr for SortExpr {
     ) -> Px<AggregationContext<'a>> {
         let input = self
             .physical_expr
+            .node
             .evaluate_on_groups(alloc, df, groups, state, kernels, groupings)?;
-        accept_rows(&self.physical_expr)?;
+        accept_rows(&self.physical_expr.node)?;
         sort_groups_cells(alloc, input, self.options, kernels)
     }
 
@@ -141,7 +152,7 @@ impl PhysicalExpr for SortExpr {
 
     #[cycle(live)]
     fn collect_live_columns(&self, alloc: Global, lv: &mut IndexSet<Name>) -> Px<()> {
-        self.physical_expr.collect_live_columns(alloc, lv)
+        self.physical_expr.node.collect_live_columns(alloc, lv)
     }
 
     fn is_literal(&self) -> bool {

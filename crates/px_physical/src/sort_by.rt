@@ -6,6 +6,7 @@ ghost use Rattle.px_tree.specs.View.{tree};
 ghost use Rattle.px_physical.specs.NodeView.{plan_of};
 ghost use Rattle.px_answers.specs.Parts.{sort_by_plan, plan_trees};
 
+use crate::child::Child;
 use crate::on_groups::{accept_rows, contexts_on_groups, has_implode, have_implode};
 use crate::phys_expr::{
     PhysExpr, collect_all, evaluate_cell, evaluate_cells, has_literals_alone, have_literals_alone,
@@ -28,7 +29,7 @@ use std::sync::ledger::Ledger;
 #[cycle(node)]
 #[derive(Drop)]
 pub struct SortByExpr {
-    input: Box<PhysExpr>,
+    input: Child,
     by: Vec<PhysExpr>,
     expr: Rc<Expr>,
     sort_options: SortMultipleOptions,
@@ -48,9 +49,9 @@ impl Model for SortByExpr {
     ghost use Rattle.px_answers.specs.Parts.{plan_trees};
     ghost use Rattle.px_physical.specs.Size.{sort_by_size};
 
-    ghost view = { λ a. record { input = plan_of a.input.value; by = map plan_of a.by.items; sort_options = a.sort_options } };
+    ghost view = { λ a. record { input = plan_of a.input.node.value; by = map plan_of a.by.items; sort_options = a.sort_options } };
 
-    ghost invariant = { λ a. tree a.expr.value ≡ sort_by (plan_of a.input.value).tree (plan_trees (map plan_of a.by.items)) a.sort_options };
+    ghost invariant = { λ a. tree a.expr.value ≡ sort_by (plan_of a.input.node.value).tree (plan_trees (map plan_of a.by.items)) a.sort_options };
 
     ghost size = { sort_by_size };
 
@@ -72,7 +73,7 @@ impl SortByExpr {
         ensures { result ≡ record { input = plan_of input.value; by = map plan_of by.items; sort_options = sort_options } }
     {
         SortByExpr {
-            input,
+            input: Child { node: input },
             by,
             expr,
             sort_options,
@@ -83,7 +84,7 @@ impl SortByExpr {
     pub fn input(&self) -> &PhysExpr
         ensures { plan_of result.now ≡ self.now.input }
     {
-        &self.input
+        &self.input.node
     }
 
     /// The keys.
@@ -112,7 +113,7 @@ impl SortByExpr {
     pub(crate) fn has_literals_alone(&self) -> bool
         ensures { result ≡ is_literal_tree (sort_by_plan self.now).tree }
     {
-        has_literals_alone(&self.input) && have_literals_alone(&self.by)
+        has_literals_alone(&self.input.node) && have_literals_alone(&self.by)
     }
 
     /// Whether an Implode stands in its inputs.
@@ -120,7 +121,7 @@ impl SortByExpr {
     pub(crate) fn has_implode(&self) -> bool
         ensures { result ≡ has_implode (sort_by_plan self.now).tree }
     {
-        has_implode(&self.input) || have_implode(&self.by)
+        has_implode(&self.input.node) || have_implode(&self.by)
     }
 }
 
@@ -144,7 +145,7 @@ impl PhysicalExpr for SortByExpr {
         groupings: &mut Steps<M>,
     ) -> Px<Column> {
         let by = evaluate_cells(alloc, &self.by, df, state, kernels, groupings)?;
-        let input = evaluate_cell(alloc, &self.input, df, state, kernels, groupings)?;
+        let input = evaluate_cell(alloc, &self.input.node, df, state, kernels, groupings)?;
         Ok(sort_by_cells(alloc, input, by, &self.sort_options, kernels)?.into_column())
     }
 
@@ -161,8 +162,9 @@ impl PhysicalExpr for SortByExpr {
         let by = contexts_on_groups(alloc, &self.by, df, groups, state, kernels, groupings)?;
         let input = self
             .input
+            .node
             .evaluate_on_groups(alloc, df, groups, state, kernels, groupings)?;
-        accept_rows(&self.input)?;
+        accept_rows(&self.input.node)?;
         sort_by_groups(alloc, input, by, &self.sort_options, kernels)
     }
 
@@ -177,7 +179,7 @@ impl PhysicalExpr for SortByExpr {
 
     #[cycle(live)]
     fn collect_live_columns(&self, alloc: Global, lv: &mut IndexSet<Name>) -> Px<()> {
-        self.input.collect_live_columns(alloc, lv)?;
+        self.input.node.collect_live_columns(alloc, lv)?;
         collect_all(alloc, &self.by, lv)
     }
 

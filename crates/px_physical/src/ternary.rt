@@ -6,6 +6,7 @@ ghost use Rattle.px_tree.specs.View.{tree};
 ghost use Rattle.px_physical.specs.NodeView.{plan_of};
 ghost use Rattle.px_answers.specs.Parts.{ternary_plan};
 
+use crate::child::Child;
 use crate::phys_expr::{PhysExpr, evaluate_cell};
 use crate::physical::{PhysicalExpr, expression_field};
 use indexmap::IndexSet;
@@ -25,9 +26,9 @@ use std::sync::ledger::Ledger;
 #[cycle(node)]
 #[derive(Drop)]
 pub struct TernaryExpr {
-    predicate: Box<PhysExpr>,
-    truthy: Box<PhysExpr>,
-    falsy: Box<PhysExpr>,
+    predicate: Child,
+    truthy: Child,
+    falsy: Child,
     expr: Rc<Expr>,
     returns_scalar: bool,
 }
@@ -46,9 +47,9 @@ impl Model for TernaryExpr {
     ghost use Rattle.px_physical.specs.NodeView.{plan_of};
     ghost use Rattle.px_physical.specs.Size.{ternary_size};
 
-    ghost view = { λ a. record { predicate = plan_of a.predicate.value; truthy = plan_of a.truthy.value; falsy = plan_of a.falsy.value } };
+    ghost view = { λ a. record { predicate = plan_of a.predicate.node.value; truthy = plan_of a.truthy.node.value; falsy = plan_of a.falsy.node.value } };
 
-    ghost invariant = { λ a. (tree a.expr.value ≡ ternary (plan_of a.predicate.value).tree (plan_of a.truthy.value).tree (plan_of a.falsy.value).tree) × (a.returns_scalar ≡ is_unit (tree a.expr.value)) };
+    ghost invariant = { λ a. (tree a.expr.value ≡ ternary (plan_of a.predicate.node.value).tree (plan_of a.truthy.node.value).tree (plan_of a.falsy.node.value).tree) × (a.returns_scalar ≡ is_unit (tree a.expr.value)) };
 
     ghost size = { ternary_size };
 
@@ -72,9 +73,9 @@ impl TernaryExpr {
         ensures { result ≡ record { predicate = plan_of predicate.value; truthy = plan_of truthy.value; falsy = plan_of falsy.value } }
     {
         TernaryExpr {
-            predicate,
-            truthy,
-            falsy,
+            predicate: Child { node: predicate },
+            truthy: Child { node: truthy },
+            falsy: Child { node: falsy },
             expr,
             returns_scalar,
         }
@@ -84,21 +85,21 @@ impl TernaryExpr {
     pub fn predicate(&self) -> &PhysExpr
         ensures { plan_of result.now ≡ self.now.predicate }
     {
-        &self.predicate
+        &self.predicate.node
     }
 
     /// What stands where the predicate is true.
     pub fn truthy(&self) -> &PhysExpr
         ensures { plan_of result.now ≡ self.now.truthy }
     {
-        &self.truthy
+        &self.truthy.node
     }
 
     /// What stands elsewhere.
     pub fn falsy(&self) -> &PhysExpr
         ensures { plan_of result.now ≡ self.now.falsy }
     {
-        &self.falsy
+        &self.falsy.node
     }
 
     /// The expression.
@@ -135,9 +136,9 @@ impl PhysicalExpr for TernaryExpr {
         kernels: &mut Steps<L>,
         groupings: &mut Steps<M>,
     ) -> Px<Column> {
-        let predicate = evaluate_cell(alloc, &self.predicate, df, state, kernels, groupings)?;
-        let truthy = evaluate_cell(alloc, &self.truthy, df, state, kernels, groupings)?;
-        let falsy = evaluate_cell(alloc, &self.falsy, df, state, kernels, groupings)?;
+        let predicate = evaluate_cell(alloc, &self.predicate.node, df, state, kernels, groupings)?;
+        let truthy = evaluate_cell(alloc, &self.truthy.node, df, state, kernels, groupings)?;
+        let falsy = evaluate_cell(alloc, &self.falsy.node, df, state, kernels, groupings)?;
         Ok(ternary_cells(alloc, predicate, truthy, falsy, kernels)?.into_column())
     }
 
@@ -154,12 +155,15 @@ impl PhysicalExpr for TernaryExpr {
     ) -> Px<AggregationContext<'a>> {
         let predicate = self
             .predicate
+            .node
             .evaluate_on_groups(alloc, df, groups, state, kernels, groupings)?;
         let truthy = self
             .truthy
+            .node
             .evaluate_on_groups(alloc, df, groups, state, kernels, groupings)?;
         let falsy = self
             .falsy
+            .node
             .evaluate_on_groups(alloc, df, groups, state, kernels, groupings)?;
         ternary_groups(alloc, predicate, truthy, falsy, kernels)
     }
@@ -175,9 +179,9 @@ impl PhysicalExpr for TernaryExpr {
 
     #[cycle(live)]
     fn collect_live_columns(&self, alloc: Global, lv: &mut IndexSet<Name>) -> Px<()> {
-        self.predicate.collect_live_columns(alloc, lv)?;
-        self.truthy.collect_live_columns(alloc, lv)?;
-        self.falsy.collect_live_columns(alloc, lv)
+        self.predicate.node.collect_live_columns(alloc, lv)?;
+        self.truthy.node.collect_live_columns(alloc, lv)?;
+        self.falsy.node.collect_live_columns(alloc, lv)
     }
 
     fn is_literal(&self) -> bool {

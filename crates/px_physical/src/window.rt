@@ -13,6 +13,7 @@ ghost use Rattle.px_window_node.specs.Inputs.{GroupedOrderAtMost, IsOrderOf, Run
 ghost use Rattle.px_physical.specs.NodeView.{order_of, plan_of};
 ghost use Rattle.px_physical.specs.Ordered.{IsOrderCause};
 
+use crate::child::Child;
 use crate::on_groups::{has_implode, have_implode};
 use crate::phys_expr::{
     PhysExpr, collect_all, evaluate_cell, evaluate_cells, has_literals_alone, have_literals_alone,
@@ -39,7 +40,7 @@ pub struct WindowExpr {
     order_by: Option<(Box<PhysExpr>, SortOptions)>,
     out_name: Option<Name>,
     function: Rc<Expr>,
-    phys_function: Box<PhysExpr>,
+    phys_function: Child,
     mapping: WindowMapping,
     expr: Rc<Expr>,
 }
@@ -58,9 +59,9 @@ impl Model for WindowExpr {
     ghost use Rattle.px_answers.specs.Parts.{plan_order, plan_trees, under};
     ghost use Rattle.px_physical.specs.Size.{window_size};
 
-    ghost view = { λ a. record { group_by = map plan_of a.group_by.items; order_by = order_of a.order_by; out_name = a.out_name; phys_function = plan_of a.phys_function.value; mapping = a.mapping } };
+    ghost view = { λ a. record { group_by = map plan_of a.group_by.items; order_by = order_of a.order_by; out_name = a.out_name; phys_function = plan_of a.phys_function.node.value; mapping = a.mapping } };
 
-    ghost invariant = { λ a. (tree a.expr.value ≡ window (under a.out_name (plan_of a.phys_function.value).tree) (plan_trees (map plan_of a.group_by.items)) (plan_order (order_of a.order_by)) a.mapping) × (tree a.function.value ≡ (plan_of a.phys_function.value).tree) };
+    ghost invariant = { λ a. (tree a.expr.value ≡ window (under a.out_name (plan_of a.phys_function.node.value).tree) (plan_trees (map plan_of a.group_by.items)) (plan_order (order_of a.order_by)) a.mapping) × (tree a.function.value ≡ (plan_of a.phys_function.node.value).tree) };
 
     ghost size = { window_size };
 
@@ -91,7 +92,9 @@ impl WindowExpr {
             order_by,
             out_name,
             function,
-            phys_function,
+            phys_function: Child {
+                node: phys_function,
+            },
             mapping,
             expr,
         }
@@ -132,7 +135,7 @@ impl WindowExpr {
     pub fn phys_function(&self) -> &PhysExpr
         ensures { plan_of result.now ≡ self.now.phys_function }
     {
-        &self.phys_function
+        &self.phys_function.node
     }
 
     /// Where what the function has for each part stands.
@@ -155,7 +158,7 @@ impl WindowExpr {
         ensures { result ≡ is_literal_tree (window_plan self.now).tree }
     {
         let keys = have_literals_alone(&self.group_by);
-        has_literals_alone(&self.phys_function) && keys && is_literal_order(&self.order_by)
+        has_literals_alone(&self.phys_function.node) && keys && is_literal_order(&self.order_by)
     }
 
     /// Whether an Implode stands in its inputs.
@@ -164,7 +167,7 @@ impl WindowExpr {
         ensures { result ≡ has_implode (window_plan self.now).tree }
     {
         let keys = have_implode(&self.group_by);
-        has_implode(&self.phys_function) || keys || has_implode_order(&self.order_by)
+        has_implode(&self.phys_function.node) || keys || has_implode_order(&self.order_by)
     }
 }
 
@@ -291,12 +294,14 @@ impl PhysicalExpr for WindowExpr {
                 // The function's own refusals come first: it has them on no groups too.
                 let none = no_groups(alloc, height)?;
                 self.phys_function
+                    .node
                     .evaluate_on_groups(alloc, df, &none, state, kernels, groupings)?;
                 return Err(refusal);
             }
         };
         let mut context = self
             .phys_function
+            .node
             .evaluate_on_groups(alloc, df, &parts, state, kernels, groupings)?;
         let column = place_window(alloc, &mut context, &parts, self.mapping)?;
         under_name(alloc, column, &self.out_name)
@@ -330,7 +335,7 @@ impl PhysicalExpr for WindowExpr {
     fn collect_live_columns(&self, alloc: Global, lv: &mut IndexSet<Name>) -> Px<()> {
         collect_all(alloc, &self.group_by, lv)?;
         collect_order(alloc, &self.order_by, lv)?;
-        self.phys_function.collect_live_columns(alloc, lv)?;
+        self.phys_function.node.collect_live_columns(alloc, lv)?;
         add_out_name(alloc, &self.out_name, lv)
     }
 

@@ -1,4 +1,4 @@
-//! Expressions and steps, their names, and what they mean on a frame.
+//! Expressions and steps, and what they mean on a frame.
 #![tactic(auto)]
 
 mod chunks;
@@ -7,7 +7,6 @@ mod copy;
 mod expr;
 mod function;
 mod literal;
-mod naming;
 mod step;
 mod window;
 mod windows;
@@ -17,7 +16,6 @@ pub use context::Context;
 pub use expr::{AggExpr, Expr, Exprs};
 pub use function::FunctionExpr;
 pub use literal::{LiteralValue, is_range_type};
-pub use naming::output_name;
 pub use step::Step;
 pub use window::{WindowMapping, WindowType};
 pub use windows::has_window;

@@ -411,11 +411,11 @@ aggregation::AggregationExprPhysicalExpr::evaluate_on_groups-returns-in_err-acce
 
 pub alias::AliasExprPhysicalExpr::evaluate_on_groups-returns-clause-cost : goal.alias::AliasExprPhysicalExpr::evaluate_on_groups-returns-clause-cost
 alias::AliasExprPhysicalExpr::evaluate_on_groups-returns-clause-cost t g c =
-    alias_group_cost c.args.self.now.tree (plan_of c.self.inside.physical_expr.value).tree c.self.inside.name (length c.args.groups.now.groups) c.args.kernels.now c.evaluate_on_groups.new.kernels (ap (λ (p : Planned). p.tree) (sym c.self.view_is)) (search rules)
+    alias_group_cost c.args.self.now.tree (plan_of c.self.inside.physical_expr.node.value).tree c.self.inside.name (length c.args.groups.now.groups) c.args.kernels.now c.evaluate_on_groups.new.kernels (ap (λ (p : Planned). p.tree) (sym c.self.view_is)) (search rules)
 
 pub alias::AliasExprPhysicalExpr::evaluate_on_groups-returns-in_err-context-clause-cost : goal.alias::AliasExprPhysicalExpr::evaluate_on_groups-returns-in_err-context-clause-cost
 alias::AliasExprPhysicalExpr::evaluate_on_groups-returns-in_err-context-clause-cost t g c =
-    alias_group_cost c.args.self.now.tree (plan_of c.self.inside.physical_expr.value).tree c.self.inside.name (length c.args.groups.now.groups) c.args.kernels.now c.evaluate_on_groups.new.kernels (ap (λ (p : Planned). p.tree) (sym c.self.view_is)) (search rules)
+    alias_group_cost c.args.self.now.tree (plan_of c.self.inside.physical_expr.node.value).tree c.self.inside.name (length c.args.groups.now.groups) c.args.kernels.now c.evaluate_on_groups.new.kernels (ap (λ (p : Planned). p.tree) (sym c.self.view_is)) (search rules)
 
 pub apply::ApplyExprPhysicalExpr::evaluate_on_groups-returns-clause-context : goal.apply::ApplyExprPhysicalExpr::evaluate_on_groups-returns-clause-context
 apply::ApplyExprPhysicalExpr::evaluate_on_groups-returns-clause-context t g c =
@@ -606,15 +606,15 @@ on_groups::contexts_on_groups-returns-clause-cost t g c =
 pub alias::AliasExprPhysicalExpr::evaluate_on_groups-returns-clause-context : goal.alias::AliasExprPhysicalExpr::evaluate_on_groups-returns-clause-context
 alias::AliasExprPhysicalExpr::evaluate_on_groups-returns-clause-context t g c =
     let name : c.in_ok-name.name ≡ c.self.inside.name = cc (c.in_ok-name.ensures) in
-    let h : IsContextOf (plan_of c.self.inside.physical_expr.value) (beside c.args.df.now c.args.state.now) c.args.groups.now c.in_ok-context.context = search rules in
-    renamed_context c.args.self.now (plan_of c.self.inside.physical_expr.value) c.self.inside.name (beside c.args.df.now c.args.state.now) c.args.groups.now c.in_ok-context.context c.with_name.result (sym c.self.view_is) h
+    let h : IsContextOf (plan_of c.self.inside.physical_expr.node.value) (beside c.args.df.now c.args.state.now) c.args.groups.now c.in_ok-context.context = search rules in
+    renamed_context c.args.self.now (plan_of c.self.inside.physical_expr.node.value) c.self.inside.name (beside c.args.df.now c.args.state.now) c.args.groups.now c.in_ok-context.context c.with_name.result (sym c.self.view_is) h
     (subst (λ n. Answers c.with_name.result (Ok (renamed c.in_ok-context.context n))) name c.with_name.ensures.answer)
 
 pub alias::AliasExprPhysicalExpr::evaluate_on_groups-returns-in_err-context-clause-causes : goal.alias::AliasExprPhysicalExpr::evaluate_on_groups-returns-in_err-context-clause-causes
 alias::AliasExprPhysicalExpr::evaluate_on_groups-returns-in_err-context-clause-causes t g c =
     let p = err_from_is_err_and c.from_residual-in_err-context.result c.from_residual-in_err-context.ensures.1 in
-    let w : IsGroupCause c.in_err-context.field-0.0 (plan_of c.self.inside.physical_expr.value) (beside c.args.df.now c.args.state.now) c.args.groups.now = search rules in
-    rw (p.1, p.2) (alias_group_cause c.in_err-context.field-0.0 c.args.self.now (plan_of c.self.inside.physical_expr.value) c.self.inside.name (beside c.args.df.now c.args.state.now) c.args.groups.now (sym c.self.view_is) w)
+    let w : IsGroupCause c.in_err-context.field-0.0 (plan_of c.self.inside.physical_expr.node.value) (beside c.args.df.now c.args.state.now) c.args.groups.now = search rules in
+    rw (p.1, p.2) (alias_group_cause c.in_err-context.field-0.0 c.args.self.now (plan_of c.self.inside.physical_expr.node.value) c.self.inside.name (beside c.args.df.now c.args.state.now) c.args.groups.now (sym c.self.view_is) w)
 
 pub phys_expr::PhysExprPhysicalExpr::evaluate_on_groups-returns-in-Apply-clause-ticks : goal.phys_expr::PhysExprPhysicalExpr::evaluate_on_groups-returns-in-Apply-clause-ticks
 phys_expr::PhysExprPhysicalExpr::evaluate_on_groups-returns-in-Apply-clause-ticks t g c =

@@ -8,7 +8,7 @@ use Rattle.std.proofs.lemmas.Result.{on_err_weaker, on_ok_weaker}
 use Rattle.px_physical.proofs.LiveNames.{front_after, front_at, front_first, front_next, front_second, front_third, names_done, names_next, window_front, window_live, window_unnamed}
 use Rattle.px_answers.proofs.Names.{alias_front, alias_whole, front_more}
 use Rattle.px_physical.proofs.+live.Goals as goal
-use Rattle.px_arena.proofs.Adding.{OnErr-of}
+use Rattle.px_lowering.proofs.Adding.{OnErr-of}
 
 pub alias::AliasExprPhysicalExpr::collect_live_columns-returns-in_err-collect_live_columns-clause-part : goal.alias::AliasExprPhysicalExpr::collect_live_columns-returns-in_err-collect_live_columns-clause-part
 alias::AliasExprPhysicalExpr::collect_live_columns-returns-in_err-collect_live_columns-clause-part t c =

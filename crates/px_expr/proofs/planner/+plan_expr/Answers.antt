@@ -1,5 +1,5 @@
 use Rattle.std.proofs.Common.{◌≡◌, ◌++◌, map, ap, rules, sym, ◌∙◌}
-use Rattle.px_arena.proofs.Shapes.{tree-BinaryExpr, tree-Ternary, tree-Filter, tree-Slice, tree-Gather, tree-SortBy, tree-Window}
+use Rattle.px_lowering.proofs.Shapes.{tree-BinaryExpr, tree-Ternary, tree-Filter, tree-Slice, tree-Gather, tree-SortBy, tree-Window}
 use Rattle.px_tree.specs.Nodes.{leaf_names, all_leaf_names, order_leaf_names}
 use Rattle.px_tree.specs.Tree.{by_name, sort_by, window}
 use Rattle.px_tree.specs.View.{order_tree, tree, trees}

@@ -3,7 +3,7 @@ ghost use Rattle.std.specs.Prelude.{◌≡◌, ◌+◌, ◌^◌, ◌<◌, ◌↔
 ghost use Rattle.px_tree.specs.Nodes.{nodes_of, all_nodes_of, order_nodes_of};
 ghost use Rattle.px_tree.specs.View.{tree, trees, agg_tree, order_tree};
 
-use crate::arena::Arena;
+use px_arena::Arena;
 use px_column::SortOptions;
 use px_tree::{AggExpr, Expr, Exprs};
 use std::rc::Rc;

@@ -5,8 +5,7 @@ ghost use Rattle.px_arena.specs.Arena.{tree_at, trees_at, order_at, agg_at, all_
 ghost use Rattle.px_tree.specs.Tree.{agg as reduction};
 ghost use Rattle.px_tree.specs.View.{tree, trees, agg_tree, order_tree};
 
-use crate::arena::Arena;
-use crate::node::{AExpr, IRAggExpr, Node};
+use px_arena::{AExpr, Arena, IRAggExpr, Node};
 use px_column::{Px, SortOptions};
 use px_tree::{AggExpr, Expr, Exprs};
 use std::alloc::Global;

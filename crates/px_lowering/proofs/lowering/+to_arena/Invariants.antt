@@ -3,7 +3,7 @@ use Rattle.px_arena.specs.Arena.{tree_at, all_below}
 use Rattle.px_tree.specs.Nodes.{nodes_of, all_nodes_of, order_nodes_of, all_postorder}
 use Rattle.px_tree.specs.Tree.{trees_of}
 use Rattle.px_tree.specs.View.{tree, trees, agg_tree, order_tree}
-use Rattle.px_arena.proofs.lowering.+to_arena.Given as goal
+use Rattle.px_lowering.proofs.lowering.+to_arena.Given as goal
 
 abbrev pub invariant-all_to_arena-loop-expr : goal.invariant-all_to_arena-loop-expr
 invariant-all_to_arena-loop-expr l = record {

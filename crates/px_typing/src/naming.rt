@@ -4,9 +4,8 @@ ghost use Rattle.px_column.specs.Prelude.{Answers};
 ghost use Rattle.px_tree.specs.Shape.{literal_name, name_of, first_name};
 ghost use Rattle.px_tree.specs.View.{tree, trees, agg_tree, literal_of};
 
-use crate::expr::{AggExpr, Expr, Exprs};
-use crate::literal::LiteralValue;
 use px_column::{Name, Px};
+use px_tree::{AggExpr, Expr, Exprs, LiteralValue};
 use std::alloc::Global;
 
 fn literal_name(alloc: Global, value: &LiteralValue) -> Px<Name>

@@ -1,14 +1,14 @@
 use Rattle.std.proofs.Common.{◌≡◌, ◌<◌, ◌++◌, length, map, Ok, ap, ◌∙◌, arith}
 use Rattle.std.proofs.lemmas.Grind.{common_steps}
 use Rattle.px_value.specs.declared.error.PxError.{PxError}
-use Rattle.px_arena.proofs.Adding.{OnErr-of, AddsFront-more, AddsFront-after, added_twice, added_thrice, kept, kept_all, kept_last, last_below, longer, window_below, made_with_list, made_with_order, all_below_later, all_below_push, postorder-children, seen_postorder, seen_rest, seen_part, more_part, placed}
-use Rattle.px_arena.proofs.Shapes.{tree-SortBy, tree-Window}
-use Rattle.px_arena.proofs.Views.{trees_is}
-use Rattle.px_arena.specs.Adding.{AddsFront}
+use Rattle.px_lowering.proofs.Adding.{OnErr-of, AddsFront-more, AddsFront-after, added_twice, added_thrice, kept, kept_all, kept_last, last_below, longer, window_below, made_with_list, made_with_order, all_below_later, all_below_push, postorder-children, seen_postorder, seen_rest, seen_part, more_part, placed}
+use Rattle.px_lowering.proofs.Shapes.{tree-SortBy, tree-Window}
+use Rattle.px_lowering.proofs.Views.{trees_is}
+use Rattle.px_lowering.specs.Adding.{AddsFront}
 use Rattle.px_tree.specs.Nodes.{postorder, all_postorder, order_postorder, children_postorder}
 use Rattle.px_tree.specs.Tree.{Tree, Trees, Order, trees_of, sort_by, window}
 use Rattle.px_tree.specs.View.{tree, trees, order_tree, mapping_of}
-use Rattle.px_arena.proofs.lowering.+to_arena.Goals as goal
+use Rattle.px_lowering.proofs.lowering.+to_arena.Goals as goal
 
 pub children_to_arena-returns-in_err-expr-in-SortBy-clause-part : goal.children_to_arena-returns-in_err-expr-in-SortBy-clause-part
 children_to_arena-returns-in_err-expr-in-SortBy-clause-part t c =

@@ -1,7 +1,7 @@
 use Rattle.std.proofs.Common.{◌≡◌, ◌+◌, ◌*◌, drop}
 use Rattle.px_arena.specs.Arena.{trees_at}
 use Rattle.px_tree.specs.Shape.{are_units}
-use Rattle.px_arena.proofs.scalar.+is_scalar.Given as goal
+use Rattle.px_lowering.proofs.scalar.+is_scalar.Given as goal
 
 abbrev pub decreases-is_scalar_ae : goal.decreases-is_scalar_ae
 decreases-is_scalar_ae l = 3 * l.node.0 + 2

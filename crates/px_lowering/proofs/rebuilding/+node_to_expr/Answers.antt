@@ -1,7 +1,7 @@
 use Rattle.std.proofs.Common.{arith}
 use Rattle.std.proofs.lemmas.Grind.{common_steps}
-use Rattle.px_arena.proofs.Views.{trees_is, all_below_at}
-use Rattle.px_arena.proofs.rebuilding.+node_to_expr.Goals as goal
+use Rattle.px_lowering.proofs.Views.{trees_is, all_below_at}
+use Rattle.px_lowering.proofs.rebuilding.+node_to_expr.Goals as goal
 
 pub nodes_to_exprs-returns : goal.nodes_to_exprs-returns
 nodes_to_exprs-returns t c = rw trees_is (grind (arith, common_steps))

@@ -1,7 +1,7 @@
 use Rattle.std.proofs.Common.{◌≡◌, ◌+◌, ◌*◌, ◌++◌, drop, max}
 use Rattle.px_arena.specs.Arena.{trees_at}
 use Rattle.px_tree.specs.Nodes.{all_leaf_names}
-use Rattle.px_arena.proofs.leaves.+push_names.Given as goal
+use Rattle.px_lowering.proofs.leaves.+push_names.Given as goal
 
 abbrev pub decreases-push_names : goal.decreases-push_names
 decreases-push_names l = 3 * l.node.0 + 2

@@ -4,8 +4,7 @@ ghost use Rattle.px_column.specs.Prelude.{Answers, AnswersBy};
 ghost use Rattle.px_arena.specs.Arena.{tree_at, trees_at, order_at, all_below, order_below};
 ghost use Rattle.px_tree.specs.Nodes.{leaf_names, all_leaf_names, order_leaf_names};
 
-use crate::arena::Arena;
-use crate::node::{AExpr, Node};
+use px_arena::{AExpr, Arena, Node};
 use px_column::{Name, Px, SortOptions};
 use std::alloc::Global;
 

@@ -1,6 +1,6 @@
 use Rattle.std.proofs.Common.{arith}
-use Rattle.px_arena.proofs.Views.{all_below_at}
-use Rattle.px_arena.proofs.leaves.+push_names.Goals as goal
+use Rattle.px_lowering.proofs.Views.{all_below_at}
+use Rattle.px_lowering.proofs.leaves.+push_names.Goals as goal
 
 pub push_all_names-push_names-requires : goal.push_all_names-push_names-requires
 push_all_names-push_names-requires t c =

@@ -1,14 +1,13 @@
 //! From expressions to arenas.
 ghost use Rattle.std.specs.Prelude.{◌≡◌, ◌+◌, ◌^◌, ◌<◌, ◌++◌, Ok, IfOk, OnOk, OnErr, length, true, ◌&&◌};
 ghost use Rattle.px_column.specs.Prelude.{Answers, AnswersBy};
-ghost use Rattle.px_arena.specs.Adding.{AddsFront};
+ghost use Rattle.px_lowering.specs.Adding.{AddsFront};
 ghost use Rattle.px_arena.specs.Arena.{tree_at, trees_at, order_at, agg_at, node_tree, children_below, is_below, all_below, order_below, agg_input, agg_method};
 ghost use Rattle.px_tree.specs.Nodes.{nodes_of, all_nodes_of, order_nodes_of, postorder, all_postorder, order_postorder, children_postorder};
 ghost use Rattle.px_tree.specs.Tree.{agg as reduction};
 ghost use Rattle.px_tree.specs.View.{tree, trees, agg_tree, order_tree};
 
-use crate::arena::Arena;
-use crate::node::{AExpr, IRAggExpr, Node};
+use px_arena::{AExpr, Arena, IRAggExpr, Node};
 use px_column::{GroupByMethod, Px, SortOptions};
 use px_tree::{AggExpr, Expr, Exprs};
 use std::alloc::Global;

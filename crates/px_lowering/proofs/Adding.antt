@@ -3,7 +3,7 @@ use Rattle.std.proofs.Common.{◌≡◌, ℕ, zero, suc, ◌+◌, ◌<◌, ◌�
 use Rattle.std.proofs.lemmas.List.{take_more, map-append, take-append-drop}
 use Rattle.std.proofs.lemmas.Bool.Decides.{nat_tests}
 use Rattle.px_arena.proofs.Trees.{and_left, and_right, places_same, trees_same, Agree-append}
-use Rattle.px_arena.specs.Adding.{AddsFront}
+use Rattle.px_lowering.specs.Adding.{AddsFront}
 use Rattle.px_arena.specs.Arena.{tree_at, trees_at, is_below, all_below}
 use Rattle.px_tree.specs.Nodes.{nodes_of, all_nodes_of, order_nodes_of, postorder, all_postorder, order_postorder, children_postorder}
 use Rattle.px_tree.specs.Tree.{Tree, Trees, Order, trees_of, no_trees, one_tree, no_order, ordered, column, literal, alias, binary, ternary, cast, function, filter, slice, gather, sort, sort_by, agg, len, window}

@@ -1,6 +1,6 @@
 use Rattle.std.proofs.Common.{arith}
-use Rattle.px_arena.proofs.Views.{all_below_at}
-use Rattle.px_arena.proofs.scalar.+is_scalar.Goals as goal
+use Rattle.px_lowering.proofs.Views.{all_below_at}
+use Rattle.px_lowering.proofs.scalar.+is_scalar.Goals as goal
 
 pub are_scalars-is_scalar_ae-requires : goal.are_scalars-is_scalar_ae-requires
 are_scalars-is_scalar_ae-requires t c =

@@ -4,8 +4,7 @@ ghost use Rattle.px_arena.specs.Arena.{tree_at, trees_at, all_below};
 ghost use Rattle.px_tree.specs.Shape.{is_unit, is_unit_first, are_units};
 ghost use Rattle.px_tree.specs.Tree.{by_name, function as applied};
 
-use crate::arena::Arena;
-use crate::node::{AExpr, IRAggExpr, Node};
+use px_arena::{AExpr, Arena, IRAggExpr, Node};
 use px_tree::FunctionExpr;
 
 /// Whether a node's expression has one value whatever the frame, and else a list of rows (polars

@@ -1,7 +1,7 @@
 use Rattle.std.proofs.Common.{◌≡◌, ◌+◌, ◌*◌, take, map}
 use Rattle.px_arena.specs.Arena.{tree_at}
 use Rattle.px_tree.specs.View.{tree}
-use Rattle.px_arena.proofs.rebuilding.+node_to_expr.Given as goal
+use Rattle.px_lowering.proofs.rebuilding.+node_to_expr.Given as goal
 
 abbrev pub decreases-node_to_expr : goal.decreases-node_to_expr
 decreases-node_to_expr l = 3 * l.node.0 + 2

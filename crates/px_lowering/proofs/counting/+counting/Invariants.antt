@@ -2,7 +2,7 @@ use Rattle.std.proofs.Common.{◌≡◌, ◌+◌, ◌*◌, ◌≤◌, drop, map}
 use Rattle.px_tree.specs.Nodes.{all_nodes_of}
 use Rattle.px_tree.specs.Tree.{trees_of}
 use Rattle.px_tree.specs.View.{tree}
-use Rattle.px_arena.proofs.counting.+counting.Given as goal
+use Rattle.px_lowering.proofs.counting.+counting.Given as goal
 
 abbrev pub decreases-room_left : goal.decreases-room_left
 decreases-room_left l = 3 * l.room
