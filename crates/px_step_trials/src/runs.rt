@@ -86,47 +86,59 @@ fn other_words_touch_nothing(rt: HostRuntime) -> Result<(), Fail> {
     Ok(())
 }
 
+/// Whether a run so ends, and writes this.
+fn is_run(
+    alloc: Global,
+    mut source: MemorySource,
+    mut sink: MemorySink,
+    status: Status,
+    written: &[u8],
+) -> Px<bool> {
+    let ended = run_word(alloc, "run", &mut source, &mut sink)?;
+    Ok(ended == status && sink.bytes() == written)
+}
+
 #[test]
 fn pieces_of_one_byte_change_nothing(rt: HostRuntime) -> Result<(), Fail> {
     let alloc = rt.alloc();
-    let mut source = source(alloc, 1, Vec::new(alloc))?;
-    let mut sink = MemorySink::new(alloc, 100, 1, Vec::new(alloc))?;
-    let status = run_word(alloc, "run", &mut source, &mut sink)?;
-    assert_eq!(rt; status, Status::Done);
-    assert_eq!(rt; sink.bytes(), TEXT.as_bytes());
+    let source = source(alloc, 1, Vec::new(alloc))?;
+    let sink = MemorySink::new(alloc, 100, 1, Vec::new(alloc))?;
+    assert!(rt; is_run(alloc, source, sink, Status::Done, TEXT.as_bytes())?);
     Ok(())
 }
 
 #[test]
 fn after_a_failed_read_nothing_is_written(rt: HostRuntime) -> Result<(), Fail> {
     let alloc = rt.alloc();
-    let mut source = source(alloc, 16, vec![in alloc; 2]?)?;
-    let mut sink = MemorySink::new(alloc, 100, 10, Vec::new(alloc))?;
-    let status = run_word(alloc, "run", &mut source, &mut sink)?;
-    assert_eq!(rt; status, Status::ReadFault);
-    assert!(rt; sink.bytes().is_empty());
+    let source = source(alloc, 16, vec![in alloc; 2]?)?;
+    let sink = MemorySink::new(alloc, 100, 10, Vec::new(alloc))?;
+    assert!(rt; is_run(alloc, source, sink, Status::ReadFault, b"")?);
     Ok(())
 }
 
 #[test]
 fn after_a_failed_write_a_front_is_written(rt: HostRuntime) -> Result<(), Fail> {
     let alloc = rt.alloc();
-    let mut source = source(alloc, 16, Vec::new(alloc))?;
-    let mut sink = MemorySink::new(alloc, 100, 10, vec![in alloc; 2]?)?;
-    let status = run_word(alloc, "run", &mut source, &mut sink)?;
-    assert_eq!(rt; status, Status::WriteFault);
-    assert_eq!(rt; sink.bytes(), b"[\"k\",\"x\",\"".as_slice());
+    let source = source(alloc, 16, Vec::new(alloc))?;
+    let sink = MemorySink::new(alloc, 100, 10, vec![in alloc; 2]?)?;
+    assert!(rt; is_run(alloc, source, sink, Status::WriteFault, b"[\"k\",\"x\",\"")?);
     Ok(())
 }
 
 #[test]
 fn a_full_sink_holds_a_front(rt: HostRuntime) -> Result<(), Fail> {
     let alloc = rt.alloc();
-    let mut source = source(alloc, 16, Vec::new(alloc))?;
-    let mut sink = MemorySink::new(alloc, 12, 100, Vec::new(alloc))?;
-    let status = run_word(alloc, "run", &mut source, &mut sink)?;
-    assert_eq!(rt; status, Status::WriteFault);
-    assert_eq!(rt; sink.bytes(), b"[\"k\",\"x\",\"le".as_slice());
+    let source = source(alloc, 16, Vec::new(alloc))?;
+    let sink = MemorySink::new(alloc, 12, 100, Vec::new(alloc))?;
+    assert!(rt;
+        is_run(
+            alloc,
+            source,
+            sink,
+            Status::WriteFault,
+            b"[\"k\",\"x\",\"le"
+        )?
+    );
     Ok(())
 }
 
@@ -134,11 +146,17 @@ fn a_full_sink_holds_a_front(rt: HostRuntime) -> Result<(), Fail> {
 fn a_text_too_long_is_no_document(rt: HostRuntime) -> Result<(), Fail> {
     let alloc = rt.alloc();
     let bytes = vec![in alloc; b' '; LIMIT]?;
-    let mut source = MemorySource::new(bytes, u32::MAX, Vec::new(alloc));
-    let mut sink = MemorySink::new(alloc, 100, 10, Vec::new(alloc))?;
-    let status = run_word(alloc, "run", &mut source, &mut sink)?;
-    assert_eq!(rt; status, Status::BadDocument);
-    assert_eq!(rt; sink.bytes(), b"error: BadDocument\n".as_slice());
+    let source = MemorySource::new(bytes, u32::MAX, Vec::new(alloc));
+    let sink = MemorySink::new(alloc, 100, 10, Vec::new(alloc))?;
+    assert!(rt;
+        is_run(
+            alloc,
+            source,
+            sink,
+            Status::BadDocument,
+            b"error: BadDocument\n"
+        )?
+    );
     Ok(())
 }
 
