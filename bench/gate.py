@@ -48,7 +48,9 @@ def see(root, seen):
             work = work or parents[at][1]
             at = parents[at][0]
         if at == root and pid != root:
-            seen[pid, start] = (work or ("rt", "proof"), seconds)
+            # A process that lets its memory go has no words left.
+            known = seen.get((pid, start), (("rt", "proof"), 0))[0]
+            seen[pid, start] = (work or known, seconds)
 
 
 def chains(folder, proof):
