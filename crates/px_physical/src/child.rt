@@ -1,4 +1,4 @@
-//! The nodes below a node.
+//! A node below another, and how it is let go.
 
 use crate::phys_expr::PhysExpr;
 

@@ -42,8 +42,9 @@ const DOCUMENT: &str = r#"{"columns":[{"name":"k","type":"Int64","values":[2,0,1
 {"agg":["Sum",{"bin":["Multiply",{"col":"x"},{"col":"k"}]}]},{"agg":["NUnique",{"col":"s"}]},{"agg":["Count",{"col":"x"},false]},{"agg":["Implode",{"col":"l"}]},
 {"agg":["Last",{"sort":[{"col":"x"},{"descending":false,"nulls_last":false}]}]},{"agg":["Sum",{"filter":[{"col":"x"},{"bin":["Eq",{"col":"k"},{"agg":["Min",{"col":"k"}]}]}]}]}]}]}"#;
 
-fn document(alloc: Global) -> Result<Document, Fail> {
-    let document = read_document(alloc, DOCUMENT.as_bytes());
+/// The document of a text.
+pub(crate) fn document(alloc: Global, text: &str) -> Result<Document, Fail> {
+    let document = read_document(alloc, text.as_bytes());
     Ok(document.ok().ok_or("the text is a document")?)
 }
 
@@ -231,7 +232,7 @@ fn both_ways(
 fn groups_have_the_values_of_their_rows(rt: HostRuntime) -> Result<(), Fail> {
     let alloc = rt.alloc();
     let mut rng = Pcg32::new(3, 54);
-    let Document { frame, steps } = document(alloc)?;
+    let Document { frame, steps } = document(alloc, DOCUMENT)?;
     for (number, expr) in expressions(&steps)?.iter().enumerate() {
         let node = plan(alloc, expr, &frame)?;
         for _ in 0..12u32 {

@@ -1,14 +1,17 @@
 //! Runs whose words are others, whose reads and writes are short or fail, and what a run is made of.
 ghost use Rattle.std.specs.Prelude.{◌≡◌, ◌<◌};
 
-use px_column::{Px, PxError, Steps};
+use crate::library::TOTALS;
+use crate::on_groups::document;
+use px_column::{Name, Px, PxError, Steps};
+use px_document::Document;
 use px_ends::{LIMIT, read_all, write_all};
 use px_frame::DataFrame;
 use px_steps::run::run;
 use px_steps::{
-    Document, MemorySink, MemorySource, Status, StdinSource, StdoutSink, are_unchunked, frame_text,
-    read_document, run_steps,
+    MemorySink, MemorySource, Status, StdinSource, StdoutSink, are_unchunked, run_steps,
 };
+use px_trial_texts::{frame, is_text, text_of_frame};
 use px_window::ExecutionState;
 use std::alloc::Global;
 use std::marker::Brand;
@@ -18,10 +21,8 @@ use std::test::Fail;
 const DOCUMENT: &str =
     r#"{"columns":[{"name":"k","type":"Int64","values":[7,9,7,7]},{"name":"x","type":"Int64","values":[0,1,2,3]}],"steps":[{"group":{"keys":[{"col":"k"}],"aggs":[{"agg":["Sum",{"col":"x"}]},{"len":null}],"chunks":null}}]}"#;
 
-const TEXT: &str = "[\"k\",\"x\",\"len\"]\n[\"Int64\",\"Int64\",\"UInt32\"]\n[7,5,3]\n[9,1,1]\n";
-
-/// A frame of one column.
-const OUTSIDE: &str = r#"{"columns":[{"name":"e","type":"Int64","values":[5,6,7,8]}],"steps":[]}"#;
+/// A column from outside.
+const OUTSIDE: &str = r#"[{"name":"e","type":"Int64","values":[5,6,7,8]}]"#;
 
 /// A select of that column and another.
 const SUM_WITH_OUTSIDE: &str =
@@ -82,7 +83,7 @@ fn other_words_touch_nothing(rt: HostRuntime) -> Result<(), Fail> {
     assert!(rt; sink.bytes().is_empty());
     let status = run_word(alloc, "run", &mut source, &mut sink)?;
     assert_eq!(rt; status, Status::Done);
-    assert_eq!(rt; sink.bytes(), TEXT.as_bytes());
+    assert_eq!(rt; sink.bytes(), TOTALS.as_bytes());
     Ok(())
 }
 
@@ -103,7 +104,7 @@ fn pieces_of_one_byte_change_nothing(rt: HostRuntime) -> Result<(), Fail> {
     let alloc = rt.alloc();
     let source = source(alloc, 1, Vec::new(alloc))?;
     let sink = MemorySink::new(alloc, 100, 1, Vec::new(alloc))?;
-    assert!(rt; is_run(alloc, source, sink, Status::Done, TEXT.as_bytes())?);
+    assert!(rt; is_run(alloc, source, sink, Status::Done, TOTALS.as_bytes())?);
     Ok(())
 }
 
@@ -192,38 +193,27 @@ fn beside_outside<L: Ledger, M: Ledger>(
     )
 }
 
-/// The same of a text that is a document, and of the frame of another.
-fn run_beside(alloc: Global, text: &str, outside: &str) -> Result<Px<DataFrame>, Fail> {
-    let document = read_document(alloc, text.as_bytes()).ok();
-    let document = document.ok_or("the text is a document")?;
-    let outside = read_document(alloc, outside.as_bytes()).ok();
-    let outside = outside.ok_or("the text is a document")?;
-    Ok(beside_outside::<Brand, Brand>(
-        alloc,
-        &document,
-        outside.frame,
-        Blank::new(1),
-        Blank::new(1),
-    ))
+/// The same of a text that is a document, as text.
+fn run_beside(alloc: Global, text: &str) -> Result<Px<Name>, Fail> {
+    let document = document(alloc, text)?;
+    let outside = frame(alloc, OUTSIDE)?;
+    let kernels = Blank::new(1);
+    let groupings = Blank::new(1);
+    let made = beside_outside::<Brand, Brand>(alloc, &document, outside, kernels, groupings);
+    Ok(text_of_frame(alloc, made))
 }
 
 #[test]
 fn a_column_from_outside_stands_beside_the_frame(rt: HostRuntime) -> Result<(), Fail> {
-    let alloc = rt.alloc();
-    let made = run_beside(alloc, SUM_WITH_OUTSIDE, OUTSIDE)?;
-    let text = frame_text(alloc, &made?)?;
-    assert_eq!(rt;
-        text.as_slice(),
-        b"[\"e\"]\n[\"Int64\"]\n[5]\n[7]\n[9]\n[11]\n".as_slice()
-    );
+    let made = run_beside(rt.alloc(), SUM_WITH_OUTSIDE)?;
+    assert!(rt; is_text(made, "[\"e\"]\n[\"Int64\"]\n[5]\n[7]\n[9]\n[11]\n")?);
     Ok(())
 }
 
 #[test]
 fn a_column_from_outside_of_another_height_misfits(rt: HostRuntime) -> Result<(), Fail> {
-    let alloc = rt.alloc();
-    let made = run_beside(alloc, FILTER_BEFORE_OUTSIDE, OUTSIDE)?;
-    assert!(rt; matches!(made, Err(PxError::ShapeMismatch)));
+    let made = run_beside(rt.alloc(), FILTER_BEFORE_OUTSIDE)?;
+    assert!(rt; is_text(made, "error: ShapeMismatch\n")?);
     Ok(())
 }
 

@@ -1,9 +1,10 @@
 //! The plain programs against the production code, on small frames.
 ghost use Rattle.std.specs.Prelude.{◌≡◌, ◌<◌};
 
-use px_column::{Column, DataType, Name, Px, PxError, Steps, Value, ValueRef};
+use crate::library::TOTALS;
+use px_column::{Column, DataType, Name, Px, Steps, Value};
 use px_frame::{DataFrame, GroupPositions, group_by};
-use px_steps::error_line;
+use px_trial_texts::{four_rows, is_text, text_of_frame};
 use px_vectors::{Aggregation, plain_group_step, plain_parts};
 use rand_core::Rng;
 use rand_pcg::Pcg32;
@@ -81,21 +82,6 @@ fn groups_have_the_rows_of_plain_parts(rt: HostRuntime) -> Result<(), Fail> {
     Ok(())
 }
 
-fn int_column(alloc: Global, name: &str, values: [i128; 4]) -> Px<Column> {
-    let mut rows = Vec::new(alloc);
-    for value in &values {
-        rows.push(Some(Value::Int(*value)))?;
-    }
-    Column::from_values(alloc, Name::new(alloc, name)?, DataType::Int64, rows)
-}
-
-fn four_rows(alloc: Global) -> Px<DataFrame> {
-    let mut columns = Vec::new(alloc);
-    columns.push(int_column(alloc, "k", [7, 9, 7, 7])?)?;
-    columns.push(int_column(alloc, "x", [0, 1, 2, 3])?)?;
-    DataFrame::new(alloc, columns)
-}
-
 /// The step by k with the sum of a column and the length.
 fn sum_and_length(alloc: Global, name: &str) -> Px<DataFrame> {
     let mut keys = Vec::new(alloc);
@@ -108,27 +94,21 @@ fn sum_and_length(alloc: Global, name: &str) -> Px<DataFrame> {
 
 #[test]
 fn a_plain_step_sums_and_counts(rt: HostRuntime) -> Result<(), Fail> {
-    let made = sum_and_length(rt.alloc(), "x")?;
-    let expected = [("k", 7, 9), ("x", 5, 1), ("len", 3, 1)];
-    assert_eq!(rt; made.get_columns().len(), expected.len());
-    for (column, (name, first, second)) in made.get_columns().iter().zip(expected) {
-        assert_eq!(rt; column.name().as_str(), name);
-        assert_eq!(rt; column.len(), 2);
-        assert!(rt; matches!(column.get(0), Some(ValueRef::Int(z)) if z == first));
-        assert!(rt; matches!(column.get(1), Some(ValueRef::Int(z)) if z == second));
-    }
+    let alloc = rt.alloc();
+    let made = sum_and_length(alloc, "x");
+    assert!(rt; is_text(text_of_frame(alloc, made), TOTALS)?);
     Ok(())
 }
 
 #[test]
 fn a_plain_step_names_the_missing_column(rt: HostRuntime) -> Result<(), Fail> {
-    let refused = sum_and_length(rt.alloc(), "y")
-        .err()
-        .ok_or("the step is refused")?;
-    let line = error_line(rt.alloc(), &refused)?;
-    assert_eq!(rt;
-        line.as_slice(),
-        b"error: ColumnNotFound(\"y\")\n".as_slice()
+    let alloc = rt.alloc();
+    let refused = sum_and_length(alloc, "y");
+    assert!(rt;
+        is_text(
+            text_of_frame(alloc, refused),
+            "error: ColumnNotFound(\"y\")\n"
+        )?
     );
     Ok(())
 }

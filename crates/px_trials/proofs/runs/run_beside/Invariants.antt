@@ -1,4 +1,4 @@
-use Rattle.px_step_trials.proofs.runs.run_beside.Given as goal
+use Rattle.px_trials.proofs.runs.run_beside.Given as goal
 
 abbrev pub ghosts-beside_outside-L-Ledger : goal.ghosts-beside_outside-L-Ledger
 ghosts-beside_outside-L-Ledger a = record { name = a.kernels.name; parts = a.kernels.parts }

@@ -1,4 +1,4 @@
-use Rattle.px_vector_trials.proofs.library.totals_of.Given as goal
+use Rattle.px_trials.proofs.library.totals_of.Given as goal
 
 abbrev pub ghosts-totals_with_counters-L-Ledger : goal.ghosts-totals_with_counters-L-Ledger
 ghosts-totals_with_counters-L-Ledger a = record { name = a.kernels.name; parts = a.kernels.parts }

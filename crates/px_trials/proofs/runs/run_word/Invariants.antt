@@ -1,4 +1,4 @@
-use Rattle.px_step_trials.proofs.runs.run_word.Given as goal
+use Rattle.px_trials.proofs.runs.run_word.Given as goal
 
 abbrev pub ghosts-run_with_counters-L-Ledger : goal.ghosts-run_with_counters-L-Ledger
 ghosts-run_with_counters-L-Ledger a = record { name = a.kernels.name; parts = a.kernels.parts }

@@ -3,17 +3,16 @@ ghost use Rattle.std.specs.Prelude.{◌≡◌, ◌<◌};
 
 use px_column::{Px, Steps};
 use px_frame::DataFrame;
-use px_steps::{frame_text, read_document};
+use px_trial_texts::{four_rows, is_text, text_of_frame};
 use px_vectors::totals;
 use std::alloc::Global;
 use std::marker::Brand;
 use std::sync::ledger::{Blank, Ledger};
 use std::test::Fail;
 
-const DOCUMENT: &str =
-    r#"{"columns":[{"name":"k","type":"Int64","values":[7,9,7,7]},{"name":"x","type":"Int64","values":[0,1,2,3]}],"steps":[]}"#;
-
-const TEXT: &str = "[\"k\",\"x\",\"len\"]\n[\"Int64\",\"Int64\",\"UInt32\"]\n[7,5,3]\n[9,1,1]\n";
+/// The sum of `x` and the length for each `k` of four rows.
+pub(crate) const TOTALS: &str =
+    "[\"k\",\"x\",\"len\"]\n[\"Int64\",\"Int64\",\"UInt32\"]\n[7,5,3]\n[9,1,1]\n";
 
 fn totals_with_counters<L: Ledger, M: Ledger>(
     alloc: Global,
@@ -33,16 +32,14 @@ fn totals_with_counters<L: Ledger, M: Ledger>(
     totals(alloc, frame, &mut kernels, &mut groupings)
 }
 
-fn totals_of(alloc: Global, frame: &DataFrame) -> Px<DataFrame> {
-    totals_with_counters::<Brand, Brand>(alloc, frame, Blank::new(1), Blank::new(1))
+fn totals_of(alloc: Global) -> Px<DataFrame> {
+    let frame = four_rows(alloc)?;
+    totals_with_counters::<Brand, Brand>(alloc, &frame, Blank::new(1), Blank::new(1))
 }
 
 #[test]
 fn a_library_calls_the_steps(rt: HostRuntime) -> Result<(), Fail> {
     let alloc = rt.alloc();
-    let document = read_document(alloc, DOCUMENT.as_bytes()).ok();
-    let document = document.ok_or("the text is a document")?;
-    let text = frame_text(alloc, &totals_of(alloc, &document.frame)?)?;
-    assert_eq!(rt; text.as_slice(), TEXT.as_bytes());
+    assert!(rt; is_text(text_of_frame(alloc, totals_of(alloc)), TOTALS)?);
     Ok(())
 }
