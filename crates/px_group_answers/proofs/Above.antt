@@ -18,8 +18,8 @@ use Rattle.px_tree.specs.Typing.{kind_in, refusals_of, own_refusals, or_first, r
 use Rattle.px_tree.specs.Value.{faults_on}
 use Rattle.px_tree.specs.declared.context.Context.TheVariants.{Aggregation}
 use Rattle.px_context.specs.Context.{Context}
-use Rattle.px_group_nodes.specs.Lane.{has_lane}
-use Rattle.px_group_nodes.specs.Made.{AreUntouched, IsMade, IsRefusal, KeepsGroups, counts_in, named_cells}
+use Rattle.px_lanes.specs.Lane.{has_lane}
+use Rattle.px_lanes.specs.Made.{AreUntouched, IsMade, IsRefusal, KeepsGroups, counts_in, named_cells}
 use Rattle.px_answers.proofs.Inputs.{IsIn, IsNode, all_none, both_up, in_all, no_misfit, one_left, one_right, size_in, unfound_above, unfound_apart, where_up, first_up, any_in}
 use Rattle.px_answers.proofs.Plain.{Plain, is_plain}
 use Rattle.px_answers.specs.Planned.{Planned}

@@ -19,7 +19,7 @@ use Rattle.px_tree.specs.Value.{faults_on, is_misfit}
 use Rattle.px_tree.specs.declared.context.Context.TheVariants.{Aggregation}
 use Rattle.px_context.specs.Built.{new_context}
 use Rattle.px_context.specs.Context.{Context}
-use Rattle.px_group_nodes.specs.Made.{named_in}
+use Rattle.px_lanes.specs.Made.{named_in}
 use Rattle.px_answers.proofs.Cells.{value_is_cell}
 use Rattle.px_answers.proofs.Beside.{beside_looked, column_parts, own_found, own_looked}
 use Rattle.px_answers.proofs.Columns.{column_plan, found_is_value, found_named}

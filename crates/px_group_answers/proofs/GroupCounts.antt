@@ -16,9 +16,9 @@ use Rattle.px_tree.specs.Tree.{Call, Tree, Trees, called, no_trees, one_tree, al
 use Rattle.px_context.specs.Built.{is_unit_literal}
 use Rattle.px_context.specs.Built.{is_flat as is_flat_layout}
 use Rattle.px_context.specs.Context.{Context}
-use Rattle.px_group_nodes.specs.Casting.{is_strict}
+use Rattle.px_lanes.specs.Casting.{is_strict}
+use Rattle.px_lanes.specs.Lane.{has_lane}
 use Rattle.px_group_nodes.specs.Function.{first_count}
-use Rattle.px_group_nodes.specs.Lane.{has_lane}
 use Rattle.px_group_nodes.specs.Lanes.{have_lanes}
 use Rattle.px_group_nodes.specs.Reduction.{reduces_at_once}
 use Rattle.px_answers.proofs.Counts.{and_left, and_right, binary_flat, cast_flat, or_none, rows_flat, ternary_flat}

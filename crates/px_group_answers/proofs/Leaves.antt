@@ -24,7 +24,7 @@ use Rattle.px_tree.specs.Tree.{Literal, single, range, series, column, len, lite
 use Rattle.px_tree.specs.Typing.{is_range_kind, kind_of_name}
 use Rattle.px_context.specs.Built.{literal_context, new_context}
 use Rattle.px_context.specs.Context.{Context, cells_of}
-use Rattle.px_group_nodes.specs.Made.{named_in}
+use Rattle.px_lanes.specs.Made.{named_in}
 use Rattle.px_answers.proofs.Cells.{value_is_cell}
 use Rattle.px_answers.proofs.Counts.{and_left, and_right}
 use Rattle.px_answers.specs.Literal.{literal_column, range_column, range_series}

@@ -23,10 +23,10 @@ use Rattle.px_tree.specs.declared.context.Context.TheVariants.{Aggregation}
 use Rattle.px_tree.specs.declared.function.FunctionExpr.{FunctionExpr}
 use Rattle.px_tree.specs.declared.function.FunctionExpr.TheVariants.{DropNulls, Explode, IsNull, NullCount, Reverse, Shift}
 use Rattle.px_context.specs.Context.{Context, cell_kind, cells_of, has_units}
+use Rattle.px_lanes.specs.Lane.{has_lane}
+use Rattle.px_lanes.specs.Made.{IsRefusal, KeepsGroups, counts_in, named_cells, named_in}
 use Rattle.px_group_nodes.specs.Function.{IsApplied, first_context_name, first_count, function_answers, function_type, function_units, has_first_units}
-use Rattle.px_group_nodes.specs.Lane.{has_lane}
 use Rattle.px_group_nodes.specs.Lanes.{have_lanes}
-use Rattle.px_group_nodes.specs.Made.{IsRefusal, KeepsGroups, counts_in, named_cells, named_in}
 use Rattle.px_group_nodes.specs.Many.{AreAllPaired, IsPairedWith, across}
 use Rattle.px_group_nodes.specs.SortBy.{IsSortedBy, sort_by_answers, sort_by_kind, sort_first}
 use Rattle.px_answers.proofs.Applied.{apply_answer, apply_node, kind_refused, more_inputs, no_input, one_input}

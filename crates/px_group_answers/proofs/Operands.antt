@@ -19,10 +19,10 @@ use Rattle.px_context.specs.Context.{Context, cell_kind, cells_in, cells_of, has
 use Rattle.px_context.specs.declared.agg_state.Layout.{Layout}
 use Rattle.px_context.specs.declared.agg_state.Layout.TheVariants.{Lists, Scalars, Flat, Rows, Unit as Single}
 use Rattle.px_nodes.specs.Named.{binary_named, ternary_named, cast_named}
-use Rattle.px_group_nodes.specs.Casting.{IsCast, cast_answers, is_strict}
-use Rattle.px_group_nodes.specs.Lane.{has_lane}
-use Rattle.px_group_nodes.specs.Made.{IsRefusal, KeepsGroups, counts_in, named_in}
-use Rattle.px_group_nodes.specs.Operator.{IsOperated, operator_answers}
+use Rattle.px_lanes.specs.Casting.{IsCast, cast_answers, is_strict}
+use Rattle.px_lanes.specs.Lane.{has_lane}
+use Rattle.px_lanes.specs.Made.{IsRefusal, KeepsGroups, counts_in, named_in}
+use Rattle.px_lanes.specs.Operator.{IsOperated, operator_answers}
 use Rattle.px_group_nodes.specs.Ternary.{IsTernary, ternary_answers, ternary_kind}
 use Rattle.px_answers.proofs.Counts.{and_left, and_right}
 use Rattle.px_answers.proofs.Inputs.{one_none, two_none, three_none}

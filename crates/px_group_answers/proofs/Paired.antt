@@ -3,7 +3,7 @@ use Rattle.std.proofs.Common.{◌≡◌, sym, ◌∙◌}
 use Rattle.px_frame.specs.External.{Frame}
 use Rattle.px_frame.specs.Groups.{Groups}
 use Rattle.px_context.specs.Context.{Context}
-use Rattle.px_group_nodes.specs.Made.{ArePaired}
+use Rattle.px_lanes.specs.Made.{ArePaired}
 use Rattle.px_group_nodes.specs.Three.{AreThreePaired}
 use Rattle.px_answers.specs.Planned.{Planned}
 use Rattle.px_group_answers.specs.OnGroups.{IsContextOf}

@@ -12,8 +12,8 @@ use Rattle.px_frame.specs.Spread.{NamedCell}
 use Rattle.px_tree.specs.Size.{count_on, counts_on}
 use Rattle.px_tree.specs.Value.{faults_on}
 use Rattle.px_context.specs.Context.{Context}
-use Rattle.px_group_nodes.specs.Made.{HasFault, answers_of_two, count_in, counts_in, named_in}
-use Rattle.px_group_nodes.specs.One.{answers_of_one}
+use Rattle.px_lanes.specs.Made.{HasFault, answers_of_two, count_in, counts_in, named_in}
+use Rattle.px_lanes.specs.One.{answers_of_one}
 use Rattle.px_group_nodes.specs.Three.{answers_of_three}
 use Rattle.px_answers.proofs.Inputs.{IsAnswer, one_left, one_right}
 use Rattle.px_answers.proofs.Plain.{is_plain}

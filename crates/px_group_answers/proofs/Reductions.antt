@@ -11,7 +11,7 @@ use Rattle.px_tree.specs.Typing.{grouped_reduction_refusals, or_first}
 use Rattle.px_context.specs.Changes.{counts_of}
 use Rattle.px_context.specs.Context.{Context, cell_kind, cells_of}
 use Rattle.px_nodes.specs.Named.{aggregation_named}
-use Rattle.px_group_nodes.specs.Made.{IsRefusal, KeepsGroups, counts_in, named_in}
+use Rattle.px_lanes.specs.Made.{IsRefusal, KeepsGroups, counts_in, named_in}
 use Rattle.px_group_nodes.specs.Reduction.{IsReduced, laid_count, reduction_answers}
 use Rattle.px_answers.proofs.Inputs.{one_none}
 use Rattle.px_answers.proofs.Operands.{first_refusal, kind_made}

@@ -12,9 +12,9 @@ use Rattle.px_tree.specs.Shape.{has_implode, is_literal_tree}
 use Rattle.px_tree.specs.Typing.{fails, implode_refusal, is_integer_or_null, kind_in, or_first, refused_where, scalar_refusal}
 use Rattle.px_context.specs.Context.{Context, cell_kind, cells_of, has_units}
 use Rattle.px_nodes.specs.Named.{filter_named, gather_named, slice_named, sort_named}
+use Rattle.px_lanes.specs.Made.{IsRefusal, KeepsGroups, counts_in, named_in}
 use Rattle.px_group_nodes.specs.Filter.{IsFiltered, filter_answers, filtered_kind}
 use Rattle.px_group_nodes.specs.Gather.{IsGathered, gather_answers, gathered_kind}
-use Rattle.px_group_nodes.specs.Made.{IsRefusal, KeepsGroups, counts_in, named_in}
 use Rattle.px_group_nodes.specs.Slice.{IsSliced, slice_answers, slice_kind}
 use Rattle.px_group_nodes.specs.Sorting.{IsSorted, sort_answers, sorted_kind}
 use Rattle.px_answers.proofs.Inputs.{IsAnswer, one_none, two_none, three_none}

@@ -4,7 +4,7 @@ use Rattle.px_frame.specs.External.{Frame}
 use Rattle.px_frame.specs.Groups.{Groups}
 use Rattle.px_frame.specs.Spread.{NamedCell}
 use Rattle.px_context.specs.Context.{Context}
-use Rattle.px_group_nodes.specs.Made.{named_cells}
+use Rattle.px_lanes.specs.Made.{named_cells}
 use Rattle.px_answers.proofs.Cells.{cell_is_value}
 use Rattle.px_answers.specs.Planned.{Planned}
 use Rattle.px_group_answers.specs.OnGroups.{AreCellsOn, AreValuesOn, IsContextOf, group_frames}

@@ -15,8 +15,8 @@ use Rattle.px_tree.specs.Typing.{kind_in, refusals_of, refused_where}
 use Rattle.px_tree.specs.Value.{faults_on}
 use Rattle.px_tree.specs.declared.context.Context.TheVariants.{Aggregation}
 use Rattle.px_context.specs.Context.{Context, cell_kind, has_units}
-use Rattle.px_group_nodes.specs.Lane.{has_lane}
-use Rattle.px_group_nodes.specs.Made.{named_cells}
+use Rattle.px_lanes.specs.Lane.{has_lane}
+use Rattle.px_lanes.specs.Made.{named_cells}
 use Rattle.px_answers.specs.Parts.{plan_trees}
 use Rattle.px_answers.specs.Planned.{Planned}
 use Rattle.px_answers.specs.Value.{IsCellOf, IsOneOf, IsValue, has_misfit_column, unfound_refusal}

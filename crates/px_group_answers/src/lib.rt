@@ -5,7 +5,7 @@
 ghost use Rattle.px_frame.specs.External.{Frame};
 ghost use Rattle.px_frame.specs.Groups.{Groups};
 ghost use Rattle.px_context.specs.Context.{Context};
-ghost use Rattle.px_group_nodes.specs.Made.{named_cells};
+ghost use Rattle.px_lanes.specs.Made.{named_cells};
 ghost use Rattle.px_answers.specs.Planned.{Planned};
 ghost use Rattle.px_group_answers.specs.OnGroups.{AreValuesOn, IsContextOf, group_frames};
 

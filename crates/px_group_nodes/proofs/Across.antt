@@ -11,10 +11,10 @@ use Rattle.px_frame.specs.declared.cell.Cell.{Cell as ProgramCell}
 use Rattle.px_context.specs.Context.{Context}
 use Rattle.px_context.specs.Part.{Part, parts_in}
 use Rattle.px_context.proofs.Reading.{drop_get}
+use Rattle.px_lanes.specs.Made.{IsFault, named_cells, named_part}
+use Rattle.px_lanes.proofs.Stepping.{answer_more, answer_refused, answers_all, named_parts}
 use Rattle.px_group_nodes.specs.Function.{first_count}
-use Rattle.px_group_nodes.specs.Made.{IsFault, named_cells, named_part}
 use Rattle.px_group_nodes.specs.Many.{AreAllPaired, AreAt, IsPairedWith, across}
-use Rattle.px_group_nodes.proofs.Stepping.{answer_more, answer_refused, answers_all, named_parts}
 
 -- the cell that is lent at a group is the context's
 pub part_at : (c : Context) (i : ℕ) (p : Part) → slice_get (parts_in c.layout c.values c.groups) i ≡ Some p → slice_get (named_cells c) i ≡ Some (named_part c.values.name p)

@@ -7,10 +7,10 @@ use Rattle.px_frame.specs.Cell.{Cell}
 use Rattle.px_frame.specs.Spread.{NamedCell}
 use Rattle.px_nodes.specs.Named.{kinds_of}
 use Rattle.px_context.specs.Context.{Context, cell_kind, cells_of, has_units}
-use Rattle.px_group_nodes.specs.Alike.{AreLike, IsLike}
-use Rattle.px_group_nodes.specs.Made.{named_cells, named_in}
+use Rattle.px_lanes.specs.Alike.{AreLike, IsLike}
+use Rattle.px_lanes.specs.Made.{named_cells, named_in}
+use Rattle.px_lanes.proofs.Likeness.{AreShaped, shaped}
 use Rattle.px_group_nodes.specs.Many.{across, answers_of_many}
-use Rattle.px_group_nodes.proofs.Likeness.{AreShaped, shaped}
 
 -- some cells of a context
 abbrev pub AreIn : Context → List NamedCell → Type 0

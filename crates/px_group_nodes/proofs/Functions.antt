@@ -17,10 +17,10 @@ use Rattle.px_tree.specs.declared.function.FunctionExpr.{FunctionExpr}
 use Rattle.px_tree.specs.declared.function.FunctionExpr.TheVariants.{IsNull, IsNotNull, Not, IsBetween, IsIn, Reverse, Shift, DropNulls, NullCount, Explode}
 use Rattle.px_nodes.specs.Named.{cells_in, first_name, function_named, kinds_of, short, under}
 use Rattle.px_context.specs.Context.{Context, has_units}
-use Rattle.px_group_nodes.specs.Alike.{AreLike}
+use Rattle.px_lanes.specs.Alike.{AreLike}
+use Rattle.px_lanes.proofs.Operators.{IsTyped, IsUnder, made_under, ok_is, typed_by}
 use Rattle.px_group_nodes.specs.Function.{first_context_name, function_answers, function_type, function_units, has_first_units}
 use Rattle.px_group_nodes.proofs.Columns.{IsRowIn, like_many, row_kinds}
-use Rattle.px_group_nodes.proofs.Operators.{IsTyped, IsUnder, made_under, ok_is, typed_by}
 use Rattle.px_group_nodes.proofs.RowsOfThree.{three_shape}
 
 abbrev pub cell_ok : Cell → Result Cell PxError

@@ -11,12 +11,12 @@ use Rattle.px_frame.specs.Spread.{NamedCell}
 use Rattle.px_tree.specs.Node.{gather_cell, indexed, is_index, is_null_unit}
 use Rattle.px_nodes.specs.Named.{gather_named, under}
 use Rattle.px_context.specs.Context.{Context, cell_kind, cells_of, has_units}
+use Rattle.px_lanes.proofs.Joining.{named}
+use Rattle.px_lanes.proofs.Likeness.{like_two, shaped}
+use Rattle.px_lanes.proofs.Operators.{IsUnder, made_under}
+use Rattle.px_lanes.proofs.Rowwise.{unit_cell_of}
 use Rattle.px_group_nodes.specs.Gather.{gather_answers, gathered_kind}
 use Rattle.px_group_nodes.specs.Pairs.{AnswersAlike}
-use Rattle.px_group_nodes.proofs.Joining.{named}
-use Rattle.px_group_nodes.proofs.Likeness.{like_two, shaped}
-use Rattle.px_group_nodes.proofs.Operators.{IsUnder, made_under}
-use Rattle.px_group_nodes.proofs.Rowwise.{unit_cell_of}
 
 module _ (one literal : Bool) where
   -- what is named of a cell stands under its name and has its type

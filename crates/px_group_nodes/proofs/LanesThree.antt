@@ -10,10 +10,10 @@ use Rattle.px_frame.specs.Spread.{NamedCell}
 use Rattle.px_nodes.specs.Together.{stands_at}
 use Rattle.px_context.specs.Built.{is_unit_literal}
 use Rattle.px_context.specs.Context.{Context, IsContext, cell_kind, has_units}
-use Rattle.px_group_nodes.specs.Lane.{has_lane, lane_of, untouched_of, with_lane}
-use Rattle.px_group_nodes.specs.Made.{ArePaired, AreUntouched, IsMade, KeepsGroups, named_cells}
+use Rattle.px_lanes.specs.Lane.{has_lane, lane_of, untouched_of, with_lane}
+use Rattle.px_lanes.specs.Made.{ArePaired, AreUntouched, IsMade, KeepsGroups, named_cells}
+use Rattle.px_lanes.proofs.Lanes.{ReadsAt, lane_answer, lane_is, lane_kind, lane_units, named_at, reads_at, unit_of, unit_or}
 use Rattle.px_group_nodes.specs.Three.{AreThreePaired, answers_of_three, untouched_of_three}
-use Rattle.px_group_nodes.proofs.Lanes.{ReadsAt, lane_answer, lane_is, lane_kind, lane_units, named_at, reads_at, unit_of, unit_or}
 
 -- a node of three inputs that goes row by row, under the second one's name
 pub record IsRowWiseThree (node : NamedCell → NamedCell → NamedCell → Result NamedCell PxError) (kind : Kind → Kind → Kind → Result Kind PxError) : Type 0 where

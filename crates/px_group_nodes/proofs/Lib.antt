@@ -1,15 +1,8 @@
-pub mod Rowwise
 pub mod RowwiseThree
-pub mod Lanes
 pub mod LanesThree
-pub mod Stepping
 pub mod Threes
-pub mod Joining
-pub mod Likeness
 pub mod LikenessThree
-pub mod Grouping
 pub mod Made
-pub mod Operators
 pub mod Pairing
 pub mod Selections
 pub mod Indexing
@@ -18,8 +11,6 @@ pub mod Columns
 pub mod SortedBy
 pub mod RowsOfThree
 pub mod Functions
-pub mod OneInput
-pub mod Casts
 pub mod Sorts
 pub mod RowFunctions
 pub mod ManyLanes

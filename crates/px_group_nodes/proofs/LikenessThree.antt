@@ -4,10 +4,10 @@ use Rattle.px_column.specs.Prelude.{Kind}
 use Rattle.px_value.specs.declared.error.PxError.{PxError}
 use Rattle.px_frame.specs.Cell.{Cell, is_unit_cell}
 use Rattle.px_frame.specs.Spread.{NamedCell}
-use Rattle.px_group_nodes.specs.Alike.{AreLike, IsLike}
+use Rattle.px_lanes.specs.Alike.{AreLike, IsLike}
+use Rattle.px_lanes.proofs.Joining.{named}
+use Rattle.px_lanes.proofs.Likeness.{AreShaped}
 use Rattle.px_group_nodes.specs.Three.{answers_of_three}
-use Rattle.px_group_nodes.proofs.Joining.{named}
-use Rattle.px_group_nodes.proofs.Likeness.{AreShaped}
 
 module _ (name : List ℕ) (t : Kind) (one : Bool) (node : NamedCell → NamedCell → NamedCell → Result NamedCell PxError) (n m o : List ℕ) (k j l : Kind) (u v w : Bool)
     (law : (a b c : Cell) (d : NamedCell) → is_unit_cell a ≡ u → is_unit_cell b ≡ v → is_unit_cell c ≡ w → node (named n k a) (named m j b) (named o l c) ≡ Ok d → IsLike name t one d) where

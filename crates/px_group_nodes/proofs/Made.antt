@@ -8,9 +8,9 @@ use Rattle.px_frame.specs.CellView.{named_cell}
 use Rattle.px_frame.specs.Spread.{NamedCell}
 use Rattle.px_frame.specs.declared.cell.Cell.{Cell}
 use Rattle.px_context.specs.Context.{Context, cell_kind, has_units}
-use Rattle.px_group_nodes.specs.Alike.{AreLike, lengths_in}
-use Rattle.px_group_nodes.specs.Made.{IsMade, IsRefusal, KeepsGroups, counts_in, named_cells}
-use Rattle.px_group_nodes.proofs.Grouping.{refused_fault, refused_kind, refused_of}
+use Rattle.px_lanes.specs.Alike.{AreLike, lengths_in}
+use Rattle.px_lanes.specs.Made.{IsMade, IsRefusal, KeepsGroups, counts_in, named_cells}
+use Rattle.px_lanes.proofs.Grouping.{refused_fault, refused_kind, refused_of}
 
 module _ (items cells : List Cell) (same : cells ≡ items) where
   -- cells of one name, one type and one shape

@@ -18,13 +18,13 @@ use Rattle.px_nodes.specs.Together.{stands_at}
 use Rattle.px_context.specs.Built.{is_unit_literal}
 use Rattle.px_context.specs.Context.{Context, cell_kind, has_units}
 use Rattle.px_context.proofs.Reading.{same_each}
+use Rattle.px_lanes.specs.Lane.{has_lane, lane_of, with_lane}
+use Rattle.px_lanes.specs.Made.{ArePaired, AreUntouched, IsRefusal, KeepsGroups, named_cells}
+use Rattle.px_lanes.proofs.Lanes.{ReadsAt, lane_answer, lane_is, lane_kind, lane_units, named_at, reads_at, unit_of, unit_or}
 use Rattle.px_group_nodes.specs.Function.{IsApplied, first_context_name, first_count, function_answers, function_type, function_units, has_first_units}
-use Rattle.px_group_nodes.specs.Lane.{has_lane, lane_of, with_lane}
 use Rattle.px_group_nodes.specs.Lanes.{IsSound, IsUntouchedOf, have_lanes, is_one_untouched, is_untouched_at}
-use Rattle.px_group_nodes.specs.Made.{ArePaired, AreUntouched, IsRefusal, KeepsGroups, named_cells}
 use Rattle.px_group_nodes.specs.Many.{AreAllPaired, IsPairedWith, across}
 use Rattle.px_group_nodes.proofs.Functions.{function_kinds, function_name, function_shape, is_first_unit}
-use Rattle.px_group_nodes.proofs.Lanes.{ReadsAt, lane_answer, lane_is, lane_kind, lane_units, named_at, reads_at, unit_of, unit_or}
 use Rattle.px_group_nodes.proofs.RowFunctions.{all_at, function_at, function_refused, function_stands, function_units_all, stand_at}
 use Rattle.px_value.proofs.Refusing.{refuses_or}
 

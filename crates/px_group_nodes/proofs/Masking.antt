@@ -21,13 +21,13 @@ use Rattle.px_context.specs.Built.{is_unit_literal, with_other_groups}
 use Rattle.px_context.specs.Context.{Context, IsContext, cell_kind, cells_in, has_units, kind_in}
 use Rattle.px_context.specs.declared.agg_state.Layout.{Layout}
 use Rattle.px_context.specs.declared.agg_state.Layout.TheVariants.{Flat}
+use Rattle.px_lanes.specs.Lane.{has_lane, lane_of}
+use Rattle.px_lanes.specs.Made.{ArePaired, answers_of_two, named_cells}
+use Rattle.px_lanes.proofs.Joining.{named}
+use Rattle.px_lanes.proofs.Lanes.{ReadsAt, lane_kind, named_at, reads_at}
+use Rattle.px_lanes.proofs.Rowwise.{cell_at}
 use Rattle.px_group_nodes.specs.Filter.{IsFiltered, filter_answers, filtered_kind}
 use Rattle.px_group_nodes.specs.Kept.{keeps_all, kept_flat, kept_group, kept_groups, truth_at}
-use Rattle.px_group_nodes.specs.Lane.{has_lane, lane_of}
-use Rattle.px_group_nodes.specs.Made.{ArePaired, answers_of_two, named_cells}
-use Rattle.px_group_nodes.proofs.Joining.{named}
-use Rattle.px_group_nodes.proofs.Lanes.{ReadsAt, lane_kind, named_at, reads_at}
-use Rattle.px_group_nodes.proofs.Rowwise.{cell_at}
 
 kept_more : (h f : ℕ → Slot) (r : ℕ) (g : List ℕ) (b : Bool) → is_true (h r) ≡ b → kept_rows (map h g) (map f g) ≡ map f (filter (λ x. is_true (h x)) g)
     → kept_rows (map h (r ∷ g)) (map f (r ∷ g)) ≡ map f (filter (λ x. is_true (h x)) (r ∷ g))

@@ -6,9 +6,9 @@ use Rattle.px_value.specs.declared.error.PxError.{PxError}
 use Rattle.px_value.specs.declared.error.PxError.TheVariants.{ComputeError, OutOfMemory}
 use Rattle.px_frame.specs.Spread.{NamedCell}
 use Rattle.px_context.specs.Context.{Context}
-use Rattle.px_group_nodes.specs.Alike.{lengths_in}
-use Rattle.px_group_nodes.specs.Made.{IsFault, IsMade, IsRefusal, counts_in}
-use Rattle.px_group_nodes.proofs.Grouping.{refused_fault, refused_kind, refused_of}
+use Rattle.px_lanes.specs.Alike.{lengths_in}
+use Rattle.px_lanes.specs.Made.{IsFault, IsMade, IsRefusal, counts_in}
+use Rattle.px_lanes.proofs.Grouping.{refused_fault, refused_kind, refused_of}
 
 -- a refusal of the context that is made of all answers is one of the node's
 pub refusal_of : (r : Result Context PxError) (answers : List (Result NamedCell PxError)) (cs : List NamedCell) → answers ≡ map Ok cs

@@ -25,13 +25,13 @@ use Rattle.px_context.specs.Part.{part}
 use Rattle.px_context.specs.declared.agg_state.Layout.{Layout}
 use Rattle.px_context.specs.declared.agg_state.Layout.TheVariants.{Lists, Scalars, Flat, Rows, Unit as Single}
 use Rattle.px_context.proofs.Counting.{many_parts}
-use Rattle.px_group_nodes.specs.Alike.{AreLike, IsLike}
-use Rattle.px_group_nodes.specs.Made.{IsRefusal, count_in, counts_in, named_cells, named_in}
-use Rattle.px_group_nodes.specs.One.{answers_of_one}
+use Rattle.px_lanes.specs.Alike.{AreLike, IsLike}
+use Rattle.px_lanes.specs.Made.{IsRefusal, count_in, counts_in, named_cells, named_in}
+use Rattle.px_lanes.specs.One.{answers_of_one}
+use Rattle.px_lanes.proofs.Joining.{named}
+use Rattle.px_lanes.proofs.Likeness.{like_one, shaped}
+use Rattle.px_lanes.proofs.Rowwise.{unit_cell_of}
 use Rattle.px_group_nodes.specs.Reduction.{IsReduced, laid_count, reads_groups, reduced_column, reduction_answers, rows_apart}
-use Rattle.px_group_nodes.proofs.Joining.{named}
-use Rattle.px_group_nodes.proofs.Likeness.{like_one, shaped}
-use Rattle.px_group_nodes.proofs.Rowwise.{unit_cell_of}
 use Rattle.px_value.proofs.Refusing.{refuses_or}
 
 abbrev cell_ok : NamedCell → Result NamedCell PxError

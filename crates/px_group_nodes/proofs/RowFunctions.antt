@@ -22,11 +22,11 @@ use Rattle.px_tree.specs.declared.function.FunctionExpr.{FunctionExpr}
 use Rattle.px_tree.specs.declared.function.FunctionExpr.TheVariants.{IsNull, IsNotNull, Not, IsBetween}
 use Rattle.px_nodes.specs.Named.{cells_in, first_name, function_named, kinds_of, short, under}
 use Rattle.px_nodes.specs.Together.{stands_at}
+use Rattle.px_lanes.proofs.Lanes.{named_at}
+use Rattle.px_lanes.proofs.Operators.{under_made}
+use Rattle.px_lanes.proofs.Rowwise.{IsRow, cell_at}
 use Rattle.px_group_nodes.proofs.Functions.{cell_ok, function_kinds, function_made, function_name}
-use Rattle.px_group_nodes.proofs.Lanes.{named_at}
-use Rattle.px_group_nodes.proofs.Operators.{under_made}
 use Rattle.px_group_nodes.proofs.RowsOfThree.{three_at, three_there}
-use Rattle.px_group_nodes.proofs.Rowwise.{IsRow, cell_at}
 
 -- each of some cells stands at n rows
 abbrev pub stand_at : ℕ → List Cell → Bool

@@ -12,7 +12,7 @@ use Rattle.px_frame.specs.Spread.{rows_beside, spread}
 use Rattle.px_tree.specs.Node.{zip_three_cells}
 use Rattle.px_nodes.specs.Together.{are_three_beside, rows_or, stands_at}
 use Rattle.px_nodes.proofs.Alongside.{three_beside}
-use Rattle.px_group_nodes.proofs.Rowwise.{IsRow, by_rows, cell_at, cell_whole, read, row_list, stands_group, unit_at, unit_cell_of}
+use Rattle.px_lanes.proofs.Rowwise.{IsRow, by_rows, cell_at, cell_whole, read, row_list, stands_group, unit_at, unit_cell_of}
 
 -- three cells are units
 abbrev pub all_units : Cell → Cell → Cell → Bool

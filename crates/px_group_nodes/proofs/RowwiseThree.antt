@@ -12,7 +12,7 @@ use Rattle.px_frame.specs.Spread.{rows_beside, spread}
 use Rattle.px_tree.specs.Node.{zip_three_cells}
 use Rattle.px_nodes.specs.Together.{rows_or, stands_at, are_three_beside}
 use Rattle.px_nodes.proofs.Alongside.{three_beside}
-use Rattle.px_group_nodes.proofs.Rowwise.{IsRow, by_rows, cell_at, cell_whole, read, row_list, stands_group, unit_at, unit_cell_of}
+use Rattle.px_lanes.proofs.Rowwise.{IsRow, by_rows, cell_at, cell_whole, read, row_list, stands_group, unit_at, unit_cell_of}
 
 zipped_three_each : (f : Slot → Slot → Slot → Slot) (p q r : ℕ → Slot) (g : List ℕ) → zipped_three f (map p g) (map q g) (map r g) ≡ map (λ i. f (p i) (q i) (r i)) g
 zipped_three_each f p q r [] = refl

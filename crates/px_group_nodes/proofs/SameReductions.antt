@@ -16,10 +16,10 @@ use Rattle.px_context.specs.Built.{is_unit_literal, with_lit}
 use Rattle.px_context.specs.Context.{Context, cell_kind, cells_in, has_units, kind_in}
 use Rattle.px_context.specs.declared.agg_state.Layout.{Layout}
 use Rattle.px_context.specs.declared.agg_state.Layout.TheVariants.{Lists, Scalars, Flat, Rows, Unit as Single}
-use Rattle.px_group_nodes.specs.Lane.{lane_of}
-use Rattle.px_group_nodes.specs.Made.{IsRefusal, named_cells}
+use Rattle.px_lanes.specs.Lane.{lane_of}
+use Rattle.px_lanes.specs.Made.{IsRefusal, named_cells}
+use Rattle.px_lanes.proofs.Joining.{named}
 use Rattle.px_group_nodes.specs.Reduction.{IsReduced, laid_count, reduction_answers}
-use Rattle.px_group_nodes.proofs.Joining.{named}
 use Rattle.px_group_nodes.proofs.Reductions.{reduction_like}
 use Rattle.px_value.proofs.Refusing.{refuses_or}
 

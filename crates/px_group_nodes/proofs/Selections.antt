@@ -11,11 +11,11 @@ use Rattle.px_frame.specs.Spread.{NamedCell, spread}
 use Rattle.px_tree.specs.Node.{filter_cell}
 use Rattle.px_nodes.specs.Named.{filter_named, under}
 use Rattle.px_context.specs.Context.{Context, cell_kind, cells_of, has_units}
+use Rattle.px_lanes.proofs.Joining.{named}
+use Rattle.px_lanes.proofs.Likeness.{like_two, shaped}
+use Rattle.px_lanes.proofs.Operators.{IsUnder, made_under}
 use Rattle.px_group_nodes.specs.Filter.{filter_answers, filtered_kind}
 use Rattle.px_group_nodes.specs.Pairs.{AnswersAlike}
-use Rattle.px_group_nodes.proofs.Joining.{named}
-use Rattle.px_group_nodes.proofs.Likeness.{like_two, shaped}
-use Rattle.px_group_nodes.proofs.Operators.{IsUnder, made_under}
 
 -- what is kept of a cell stands under its name and has its type
 pub filter_under : (a by c : NamedCell) → filter_named a by ≡ Ok c → IsUnder a.name a.kind (filter_cell a.cell by.cell) c

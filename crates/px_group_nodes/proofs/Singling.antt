@@ -19,14 +19,14 @@ use Rattle.px_tree.specs.Node.{filter_cell}
 use Rattle.px_nodes.specs.Named.{filter_named, under}
 use Rattle.px_context.specs.Built.{is_unit_literal, with_flat, with_lit}
 use Rattle.px_context.specs.Context.{Context, IsContext, cell_kind}
+use Rattle.px_lanes.specs.Lane.{has_lane, lane_of}
+use Rattle.px_lanes.specs.Made.{ArePaired, HasFault, answers_of_two, named_cells}
+use Rattle.px_lanes.proofs.Joining.{named}
+use Rattle.px_lanes.proofs.Lanes.{ReadsAt, lane_kind, named_at, reads_at}
+use Rattle.px_lanes.proofs.Rowwise.{cell_at}
 use Rattle.px_group_nodes.specs.Filter.{IsFiltered, filter_answers, filtered_kind}
 use Rattle.px_group_nodes.specs.Kept.{has_one_row, kept_flat}
-use Rattle.px_group_nodes.specs.Lane.{has_lane, lane_of}
-use Rattle.px_group_nodes.specs.Made.{ArePaired, HasFault, answers_of_two, named_cells}
-use Rattle.px_group_nodes.proofs.Joining.{named}
-use Rattle.px_group_nodes.proofs.Lanes.{ReadsAt, lane_kind, named_at, reads_at}
 use Rattle.px_group_nodes.proofs.Masking.{flat_cells, flat_mask, untouched_filtered, untouched_lane, unit_mask}
-use Rattle.px_group_nodes.proofs.Rowwise.{cell_at}
 use Rattle.px_group_nodes.proofs.Selections.{filter_under, kept_list}
 use Rattle.px_value.proofs.Refusing.{refuses_or}
 

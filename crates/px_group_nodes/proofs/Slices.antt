@@ -12,12 +12,12 @@ use Rattle.px_tree.specs.Node.{length_of, offset_of, one_value, slice_cell}
 use Rattle.px_tree.specs.Typing.{is_integer_or_null}
 use Rattle.px_nodes.specs.Named.{slice_named, under}
 use Rattle.px_context.specs.Context.{Context, cell_kind, cells_of, has_units}
-use Rattle.px_group_nodes.specs.Alike.{AreLike}
+use Rattle.px_lanes.specs.Alike.{AreLike}
+use Rattle.px_lanes.proofs.Joining.{named}
+use Rattle.px_lanes.proofs.Likeness.{shaped}
+use Rattle.px_lanes.proofs.Operators.{IsTyped, IsUnder, made_under, ok_is, typed_by}
 use Rattle.px_group_nodes.specs.Slice.{slice_answers, slice_kind}
-use Rattle.px_group_nodes.proofs.Joining.{named}
-use Rattle.px_group_nodes.proofs.Likeness.{shaped}
 use Rattle.px_group_nodes.proofs.LikenessThree.{like_three}
-use Rattle.px_group_nodes.proofs.Operators.{IsTyped, IsUnder, made_under, ok_is, typed_by}
 
 after_test : (t : Bool) (k : Kind) (f : Kind → Result NamedCell PxError) → (if t then f k else Err (InvalidOperation Types)) ≡ ((if t then Ok k else Err (InvalidOperation Types)) >>= f)
 after_test true k f = refl

@@ -18,11 +18,11 @@ use Rattle.px_context.specs.Built.{is_flat, is_unit_literal, with_other_groups}
 use Rattle.px_context.specs.Context.{Context, cell_kind, cells_in, has_units}
 use Rattle.px_context.specs.declared.agg_state.Layout.{Layout}
 use Rattle.px_context.specs.declared.agg_state.Layout.TheVariants.{Lists, Scalars, Flat, Rows, Unit as Single}
-use Rattle.px_group_nodes.specs.Made.{HasFault, IsRefusal, named_cells}
+use Rattle.px_lanes.specs.Made.{HasFault, IsRefusal, named_cells}
+use Rattle.px_lanes.proofs.Joining.{named}
 use Rattle.px_group_nodes.specs.Slice.{IsSliced, slice_answers, slice_kind}
 use Rattle.px_group_nodes.specs.Three.{answers_of_three}
 use Rattle.px_group_nodes.specs.Windows.{rows_window, window_by, windows_of}
-use Rattle.px_group_nodes.proofs.Joining.{named}
 use Rattle.px_value.proofs.Refusing.{refuses_or}
 use Rattle.px_group_nodes.proofs.Windows.{window_slots}
 

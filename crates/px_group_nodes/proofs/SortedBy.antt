@@ -12,10 +12,10 @@ use Rattle.px_frame.specs.Spread.{NamedCell}
 use Rattle.px_tree.specs.Node.{sort_by_cell, spread_keys}
 use Rattle.px_nodes.specs.Named.{cells_in, kinds_of, sort_by_named, under}
 use Rattle.px_context.specs.Context.{Context, cell_kind}
-use Rattle.px_group_nodes.specs.Alike.{AreLike, IsLike}
+use Rattle.px_lanes.specs.Alike.{AreLike, IsLike}
+use Rattle.px_lanes.proofs.Operators.{IsUnder, made_under}
 use Rattle.px_group_nodes.specs.SortBy.{sort_by_answers, sort_first}
 use Rattle.px_group_nodes.proofs.Columns.{IsRowIn, like_many}
-use Rattle.px_group_nodes.proofs.Operators.{IsUnder, made_under}
 
 list_made : {X : Type 0} (r : Result X PxError) (f : X → List Slot) (c : Cell) → (r >>= λ x. Ok (rows (f x))) ≡ Ok c → is_unit_cell c ≡ false
 list_made (Ok x) f c h = let same : rows (f x) ≡ c = cc in ap is_unit_cell (sym same)

@@ -12,11 +12,11 @@ use Rattle.px_frame.specs.Spread.{NamedCell}
 use Rattle.px_tree.specs.Node.{sort_cell}
 use Rattle.px_nodes.specs.Named.{sort_named, under}
 use Rattle.px_context.specs.Context.{Context, cell_kind, cells_of, has_units}
-use Rattle.px_group_nodes.specs.Alike.{AreLike, IsLike}
+use Rattle.px_lanes.specs.Alike.{AreLike, IsLike}
+use Rattle.px_lanes.proofs.Joining.{named}
+use Rattle.px_lanes.proofs.Likeness.{like_one, shaped}
+use Rattle.px_lanes.proofs.Operators.{made_under, ok_is}
 use Rattle.px_group_nodes.specs.Sorting.{sort_answers, sorted_kind}
-use Rattle.px_group_nodes.proofs.Joining.{named}
-use Rattle.px_group_nodes.proofs.Likeness.{like_one, shaped}
-use Rattle.px_group_nodes.proofs.Operators.{made_under, ok_is}
 
 abbrev cell_ok : Cell → Result Cell PxError
 cell_ok x = Ok x

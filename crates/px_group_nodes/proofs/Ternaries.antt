@@ -15,18 +15,18 @@ use Rattle.px_tree.specs.Node.{ternary_cell}
 use Rattle.px_nodes.specs.Named.{ternary_named, under}
 use Rattle.px_nodes.specs.Together.{stands_at}
 use Rattle.px_context.specs.Context.{Context, IsContext, cell_kind, cells_of, has_units}
-use Rattle.px_group_nodes.specs.Alike.{AreLike}
-use Rattle.px_group_nodes.specs.Lane.{has_lane, lane_of, with_lane}
-use Rattle.px_group_nodes.specs.Made.{IsRefusal, KeepsGroups}
+use Rattle.px_lanes.specs.Alike.{AreLike}
+use Rattle.px_lanes.specs.Lane.{has_lane, lane_of, with_lane}
+use Rattle.px_lanes.specs.Made.{IsRefusal, KeepsGroups}
+use Rattle.px_lanes.proofs.Joining.{named}
+use Rattle.px_lanes.proofs.Lanes.{lane_kind, named_at}
+use Rattle.px_lanes.proofs.Likeness.{shaped}
+use Rattle.px_lanes.proofs.Operators.{IsTyped, IsUnder, made_under, ok_is, typed_by, under_made}
+use Rattle.px_lanes.proofs.Rowwise.{IsRow, cell_at}
 use Rattle.px_group_nodes.specs.Ternary.{IsTernary, ternary_answers, ternary_kind}
 use Rattle.px_group_nodes.specs.Three.{AreThreePaired, untouched_of_three}
-use Rattle.px_group_nodes.proofs.Joining.{named}
-use Rattle.px_group_nodes.proofs.Lanes.{lane_kind, named_at}
 use Rattle.px_group_nodes.proofs.LanesThree.{IsRowWiseThree, kept_three, lane_three, made_three, stands_three, three_read}
-use Rattle.px_group_nodes.proofs.Likeness.{shaped}
 use Rattle.px_group_nodes.proofs.LikenessThree.{like_three}
-use Rattle.px_group_nodes.proofs.Operators.{IsTyped, IsUnder, made_under, ok_is, typed_by, under_made}
-use Rattle.px_group_nodes.proofs.Rowwise.{IsRow, cell_at}
 use Rattle.px_group_nodes.proofs.RowwiseThree.{three_at, three_there, zip_three_shape}
 use Rattle.px_value.proofs.Refusing.{refuses_or}
 

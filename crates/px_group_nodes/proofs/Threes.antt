@@ -10,9 +10,9 @@ use Rattle.px_frame.specs.declared.cell.Cell.{Cell}
 use Rattle.px_context.proofs.Counting.{many_parts}
 use Rattle.px_context.specs.Context.{Context, IsContext}
 use Rattle.px_context.specs.Part.{Part, parts_in}
-use Rattle.px_group_nodes.specs.Made.{IsFault, named_cells, named_part}
+use Rattle.px_lanes.specs.Made.{IsFault, named_cells, named_part}
+use Rattle.px_lanes.proofs.Stepping.{answer_more, answer_refused, answers_all, named_parts}
 use Rattle.px_group_nodes.specs.Three.{answers_of_three}
-use Rattle.px_group_nodes.proofs.Stepping.{answer_more, answer_refused, answers_all, named_parts}
 
 module _ {X : Type 0} where
   -- what stands at a place is the first of what is left from there on

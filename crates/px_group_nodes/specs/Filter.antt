@@ -7,7 +7,7 @@ use Rattle.px_value.specs.declared.error.PxError.TheVariants.{SchemaMismatch}
 use Rattle.px_frame.specs.Spread.{NamedCell}
 use Rattle.px_nodes.specs.Named.{filter_named}
 use Rattle.px_context.specs.Context.{Context, cell_kind}
-use Rattle.px_group_nodes.specs.Made.{IsMade, answers_of_two, named_cells}
+use Rattle.px_lanes.specs.Made.{IsMade, answers_of_two, named_cells}
 
 -- what a filter answers group by group
 abbrev pub filter_answers : Context → Context → List (Result NamedCell PxError)

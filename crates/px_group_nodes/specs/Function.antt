@@ -9,7 +9,7 @@ use Rattle.px_tree.specs.Typing.{function_kind}
 use Rattle.px_tree.specs.declared.function.FunctionExpr.{FunctionExpr}
 use Rattle.px_nodes.specs.Named.{function_named}
 use Rattle.px_context.specs.Context.{Context, cell_kind, has_units}
-use Rattle.px_group_nodes.specs.Made.{IsMade}
+use Rattle.px_lanes.specs.Made.{IsMade}
 use Rattle.px_group_nodes.specs.Many.{answers_of_many}
 
 -- the name of the first of some contexts, empty without one

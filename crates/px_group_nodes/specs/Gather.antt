@@ -9,7 +9,7 @@ use Rattle.px_value.specs.declared.error.PxError.TheVariants.{ComputeError, Inva
 use Rattle.px_frame.specs.Spread.{NamedCell}
 use Rattle.px_nodes.specs.Named.{gather_named}
 use Rattle.px_context.specs.Context.{Context, cell_kind, has_units}
-use Rattle.px_group_nodes.specs.Made.{IsMade, answers_of_two, named_cells}
+use Rattle.px_lanes.specs.Made.{IsMade, answers_of_two, named_cells}
 
 -- what the rows that indices name are, group by group
 abbrev pub gather_answers : Bool → Bool → Context → Context → List (Result NamedCell PxError)

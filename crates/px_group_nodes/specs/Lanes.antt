@@ -3,7 +3,7 @@ use Rattle.std.specs.Prelude.{◌≡◌, ℕ, zero, suc, ◌^◌, ◌<◌, Bool,
 use Rattle.std.specs.List.{list_all, list_any}
 use Rattle.px_frame.specs.Groups.{IsGroups}
 use Rattle.px_context.specs.Context.{Context, IsContext}
-use Rattle.px_group_nodes.specs.Lane.{has_lane}
+use Rattle.px_lanes.specs.Lane.{has_lane}
 
 -- each reads from one cell
 abbrev pub have_lanes : List Context → Bool

@@ -1,8 +1,3 @@
-pub mod Lane
-pub mod Made
-pub mod Alike
-pub mod One
-pub mod Operator
 pub mod Pairs
 pub mod Kept
 pub mod Filter
@@ -10,7 +5,6 @@ pub mod Gather
 pub mod Many
 pub mod SortBy
 pub mod Function
-pub mod Casting
 pub mod Sorting
 pub mod Lanes
 pub mod Reduction

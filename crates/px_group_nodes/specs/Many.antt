@@ -4,7 +4,7 @@ use Rattle.std.specs.List.{zip}
 use Rattle.px_value.specs.declared.error.PxError.{PxError}
 use Rattle.px_frame.specs.Spread.{NamedCell}
 use Rattle.px_context.specs.Context.{Context}
-use Rattle.px_group_nodes.specs.Made.{ArePaired, named_cells}
+use Rattle.px_lanes.specs.Made.{ArePaired, named_cells}
 
 -- for each of n groups the cells of all inputs
 abbrev pub across : ℕ → List (List NamedCell) → List (List NamedCell)

@@ -13,8 +13,8 @@ use Rattle.px_nodes.specs.Named.{aggregation_named}
 use Rattle.px_context.specs.Built.{is_flat, is_unit_literal}
 use Rattle.px_context.specs.Changes.{counts_of}
 use Rattle.px_context.specs.Context.{Context, cell_kind}
-use Rattle.px_group_nodes.specs.Made.{IsMade, counts_in, named_cells}
-use Rattle.px_group_nodes.specs.One.{answers_of_one}
+use Rattle.px_lanes.specs.Made.{IsMade, counts_in, named_cells}
+use Rattle.px_lanes.specs.One.{answers_of_one}
 
 -- whether the cells are the rows of one column at the groups, as those of an untouched context are
 abbrev pub reads_groups : Context → Bool

@@ -8,7 +8,7 @@ use Rattle.px_frame.specs.Spread.{NamedCell}
 use Rattle.px_tree.specs.Typing.{is_integer_or_null}
 use Rattle.px_nodes.specs.Named.{slice_named}
 use Rattle.px_context.specs.Context.{Context, cell_kind}
-use Rattle.px_group_nodes.specs.Made.{IsMade, named_cells}
+use Rattle.px_lanes.specs.Made.{IsMade, named_cells}
 use Rattle.px_group_nodes.specs.Three.{answers_of_three}
 
 -- the type of a slice: the input's, where the offset and the length are of integers or nulls

@@ -9,7 +9,7 @@ use Rattle.px_value.specs.declared.sort_options.SortMultipleOptions.{SortMultipl
 use Rattle.px_frame.specs.Spread.{NamedCell}
 use Rattle.px_nodes.specs.Named.{sort_by_named}
 use Rattle.px_context.specs.Context.{Context, cell_kind}
-use Rattle.px_group_nodes.specs.Made.{IsMade}
+use Rattle.px_lanes.specs.Made.{IsMade}
 use Rattle.px_group_nodes.specs.Many.{answers_of_many}
 
 -- the rows of the first cell in the order of the others

@@ -8,8 +8,8 @@ use Rattle.px_value.specs.declared.sort_options.SortOptions.{SortOptions}
 use Rattle.px_frame.specs.Spread.{NamedCell}
 use Rattle.px_nodes.specs.Named.{sort_named}
 use Rattle.px_context.specs.Context.{Context, cell_kind}
-use Rattle.px_group_nodes.specs.Made.{IsMade, named_cells}
-use Rattle.px_group_nodes.specs.One.{answers_of_one}
+use Rattle.px_lanes.specs.Made.{IsMade, named_cells}
+use Rattle.px_lanes.specs.One.{answers_of_one}
 
 -- the type of sorted values; lists have no order
 abbrev pub sorted_kind : Kind → Result Kind PxError

@@ -7,7 +7,7 @@ use Rattle.px_value.specs.declared.error.PxError.TheVariants.{SchemaMismatch}
 use Rattle.px_frame.specs.Spread.{NamedCell}
 use Rattle.px_nodes.specs.Named.{ternary_named}
 use Rattle.px_context.specs.Context.{Context, cell_kind, has_units}
-use Rattle.px_group_nodes.specs.Made.{IsMade, named_cells}
+use Rattle.px_lanes.specs.Made.{IsMade, named_cells}
 use Rattle.px_group_nodes.specs.Three.{answers_of_three}
 
 -- the type of a ternary: that of its branches, where these have one and the predicate has truths

@@ -4,8 +4,8 @@ use Rattle.std.specs.List.{zip}
 use Rattle.px_value.specs.declared.error.PxError.{PxError}
 use Rattle.px_frame.specs.Spread.{NamedCell}
 use Rattle.px_context.specs.Context.{Context}
-use Rattle.px_group_nodes.specs.Lane.{untouched_of}
-use Rattle.px_group_nodes.specs.Made.{ArePaired}
+use Rattle.px_lanes.specs.Lane.{untouched_of}
+use Rattle.px_lanes.specs.Made.{ArePaired}
 
 -- what a node of three inputs answers, group by group
 abbrev pub answers_of_three : (NamedCell → NamedCell → NamedCell → Result NamedCell PxError) → List NamedCell → List NamedCell → List NamedCell → List (Result NamedCell PxError)

@@ -10,18 +10,18 @@ ghost use Rattle.px_frame.specs.Spread.{column_of_cell};
 ghost use Rattle.px_tree.specs.Shape.{is_implode};
 ghost use Rattle.px_context.specs.Built.{is_unit_literal, with_column, with_lit};
 ghost use Rattle.px_context.specs.Context.{IsContext, cell_kind, has_units};
-ghost use Rattle.px_group_nodes.specs.Made.{IsRefusal, KeepsGroups, named_cells};
+ghost use Rattle.px_lanes.specs.Made.{IsRefusal, KeepsGroups, named_cells};
 ghost use Rattle.px_group_nodes.specs.Reduction.{IsReduced, laid_count, reads_groups, reduced_column, reduces_at_once, reduction_answers, rows_apart};
 
-use crate::each_one::{One, make_each};
-use crate::lane::lane;
-use crate::laying::flat_over;
 use px_column::{Column, GroupByMethod, Px, Steps, reduced_type};
 use px_context::AggregationContext;
 use px_frame::{
     Cell, GroupPositions, agg_count, agg_first, agg_last, agg_list, agg_max, agg_min, agg_n_unique,
     agg_sum,
 };
+use px_lanes::each_one::{One, make_each};
+use px_lanes::lane::lane;
+use px_lanes::laying::flat_over;
 use px_nodes::aggregation_cells;
 use std::alloc::Global;
 use std::sync::ledger::Ledger;
@@ -150,7 +150,7 @@ fn reduce_values<'a, L: Ledger>(
 }
 
 /// A context with the same cell for each group.
-#[tactic(auto, using(crate::proofs::Lanes::unit_length))]
+#[tactic(auto, using(px_lanes::proofs::Lanes::unit_length))]
 fn with_same<'a>(mut context: AggregationContext<'a>, cell: Cell) -> AggregationContext<'a>
     ensures { result ≡ with_lit (is_unit_cell (named_cell cell).cell) context.entry (column_of_cell (named_cell cell)) }
 {

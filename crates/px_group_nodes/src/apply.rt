@@ -2,20 +2,20 @@
 ghost use Rattle.std.specs.Prelude.{◌≡◌, ◌⊎◌, ◌+◌, ◌<◌, ◌≤◌, ◌&&◌, Err, IfErr, IfOk, Ok, OnOk, false, length, true};
 ghost use Rattle.px_column.specs.Prelude.{Answers};
 ghost use Rattle.px_tree.specs.Partition.{is_row_function};
+ghost use Rattle.px_lanes.specs.Lane.{has_lane};
+ghost use Rattle.px_lanes.specs.Made.{IsRefusal, KeepsGroups, counts_in};
 ghost use Rattle.px_group_nodes.specs.Function.{IsApplied, first_context_name, first_count, function_answers, function_type};
-ghost use Rattle.px_group_nodes.specs.Lane.{has_lane};
 ghost use Rattle.px_group_nodes.specs.Lanes.{have_lanes};
-ghost use Rattle.px_group_nodes.specs.Made.{IsRefusal, KeepsGroups, counts_in};
 ghost use Rattle.px_group_nodes.specs.Many.{AreAllPaired};
 
 use crate::each_many::{Many, each_many};
 use crate::function_type::{function_type, function_units, is_row_function};
-use crate::lane::with_lane;
-use crate::laying::from_cells;
 use crate::many_lanes::{all_have_lanes, first_untouched, lanes};
 use px_column::{Name, Px, Steps};
 use px_context::AggregationContext;
 use px_frame::Cell;
+use px_lanes::lane::with_lane;
+use px_lanes::laying::from_cells;
 use px_nodes::apply_cells;
 use px_tree::FunctionExpr;
 use std::alloc::Global;

@@ -5,13 +5,13 @@ ghost use Rattle.px_value.specs.declared.error.PxError.{PxError as Refusal};
 ghost use Rattle.px_value.specs.declared.error.PxError.TheVariants.{OutOfMemory};
 ghost use Rattle.px_frame.specs.CellView.{named_cell};
 ghost use Rattle.px_frame.specs.Spread.{NamedCell};
-ghost use Rattle.px_group_nodes.specs.Made.{IsFault, named_cells};
+ghost use Rattle.px_lanes.specs.Made.{IsFault, named_cells};
 ghost use Rattle.px_group_nodes.specs.Three.{answers_of_three};
 
-use crate::each::copy_cell;
 use px_column::{Px, Steps};
 use px_context::AggregationContext;
 use px_frame::Cell;
+use px_lanes::each::copy_cell;
 use std::alloc::Global;
 use std::sync::ledger::Ledger;
 

@@ -1,14 +1,14 @@
 //! The rows of a context that indices name.
 ghost use Rattle.std.specs.Prelude.{◌≡◌, ◌⊎◌, ◌+◌, ◌≤◌, [], ◌∷◌, Ok, Err, IfOk, IfErr, length};
 ghost use Rattle.px_column.specs.Prelude.{AnswersBy, kind_of};
+ghost use Rattle.px_lanes.specs.Made.{ArePaired, IsRefusal, KeepsGroups, counts_in};
 ghost use Rattle.px_group_nodes.specs.Gather.{IsGathered, gather_answers, gathered_kind};
-ghost use Rattle.px_group_nodes.specs.Made.{ArePaired, IsRefusal, KeepsGroups, counts_in};
 
-use crate::each::Two;
 use crate::pairs::make_each;
 use px_column::{ComputeWhy, DataType, InvalidWhy, Px, PxError, Steps, is_integer};
 use px_context::AggregationContext;
 use px_frame::Cell;
+use px_lanes::each::Two;
 use px_nodes::gather_cells;
 use std::alloc::Global;
 use std::sync::ledger::Ledger;

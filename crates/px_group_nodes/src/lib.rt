@@ -3,19 +3,13 @@
 
 mod aggregation;
 mod apply;
-mod binary;
-mod cast;
-mod each;
 mod each_many;
-mod each_one;
 mod each_three;
 mod filter;
 mod function_type;
 mod gather;
 mod group_windows;
 mod kept;
-mod lane;
-mod laying;
 mod many_lanes;
 mod pairs;
 mod slice;
@@ -25,10 +19,9 @@ mod ternary;
 
 pub use aggregation::aggregation_groups;
 pub use apply::apply_groups;
-pub use binary::binary_groups;
-pub use cast::cast_groups;
 pub use filter::filter_groups;
 pub use gather::gather_groups;
+pub use px_lanes::{binary_groups, cast_groups};
 pub use slice::slice_groups;
 pub use sort::sort_groups_cells;
 pub use sort_by::sort_by_groups;

@@ -2,13 +2,13 @@
 ghost use Rattle.std.specs.Prelude.{◌≡◌, ◌<◌, All, IfOk, Ok, length, map, true};
 ghost use Rattle.px_column.specs.Prelude.{AnswersBy};
 ghost use Rattle.px_frame.specs.CellView.{named_cell};
-ghost use Rattle.px_group_nodes.specs.Lane.{lane_of};
+ghost use Rattle.px_lanes.specs.Lane.{lane_of};
 ghost use Rattle.px_group_nodes.specs.Lanes.{IsSound, IsUntouchedOf, have_lanes, is_one_untouched, is_untouched_at};
 
-use crate::lane::{has_lane, lane};
 use px_column::Px;
 use px_context::AggregationContext;
 use px_frame::Cell;
+use px_lanes::lane::{has_lane, lane};
 use std::alloc::Global;
 
 /// Whether each of some contexts reads from one cell.

@@ -1,13 +1,13 @@
 //! What nodes of two inputs make of contexts, group by group.
 ghost use Rattle.std.specs.Prelude.{◌≡◌, ◌+◌, ◌≤◌, Ok, IfOk, IfErr, false, length};
 ghost use Rattle.px_column.specs.Prelude.{kind_of};
-ghost use Rattle.px_group_nodes.specs.Made.{IsMade, IsRefusal, answers_of_two, counts_in, named_cells};
+ghost use Rattle.px_lanes.specs.Made.{IsMade, IsRefusal, answers_of_two, counts_in, named_cells};
 ghost use Rattle.px_group_nodes.specs.Pairs.{AnswersAlike};
 
-use crate::each::{Two, each_two};
-use crate::laying::from_cells;
 use px_column::{DataType, Px, Steps};
 use px_context::AggregationContext;
+use px_lanes::each::{Two, each_two};
+use px_lanes::laying::from_cells;
 use std::alloc::Global;
 use std::sync::ledger::Ledger;
 

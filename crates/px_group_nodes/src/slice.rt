@@ -7,17 +7,17 @@ ghost use Rattle.px_tree.specs.Typing.{is_integer_or_null};
 ghost use Rattle.px_nodes.specs.Named.{slice_named};
 ghost use Rattle.px_context.specs.Built.{is_flat, is_unit_literal};
 ghost use Rattle.px_context.specs.Context.{cell_kind};
-ghost use Rattle.px_group_nodes.specs.Made.{IsRefusal, KeepsGroups, counts_in};
+ghost use Rattle.px_lanes.specs.Made.{IsRefusal, KeepsGroups, counts_in};
 ghost use Rattle.px_group_nodes.specs.Slice.{IsSliced, slice_answers, slice_kind};
 ghost use Rattle.px_group_nodes.specs.Three.{AreThreePaired};
 ghost use Rattle.px_group_nodes.specs.Windows.{window_by};
 
 use crate::each_three::{Three, each_three};
 use crate::group_windows::window_groups;
-use crate::laying::from_cells;
 use px_column::{ComputeWhy, DataType, InvalidWhy, Px, PxError, Steps, ValueRef, is_integer};
 use px_context::AggregationContext;
 use px_frame::Cell;
+use px_lanes::laying::from_cells;
 use px_nodes::slice_cells;
 use std::alloc::Global;
 use std::sync::ledger::Ledger;
@@ -96,7 +96,7 @@ fn slice_each<'a, L: Ledger>(
 }
 
 /// The one number of a unit literal, none for a null.
-#[tactic(auto, using(crate::proofs::Lanes::unit_one))]
+#[tactic(auto, using(px_lanes::proofs::Lanes::unit_one))]
 fn literal_number(context: &AggregationContext<'_>) -> Option<i128>
     requires unit { is_unit_literal context.now.layout ≡ true }
     requires kind { is_integer_or_null (cell_kind context.now) ≡ true }

@@ -2,13 +2,13 @@
 ghost use Rattle.std.specs.Prelude.{◌≡◌, ◌⊎◌, ◌+◌, ◌≤◌, [], ◌∷◌, Err, IfOk, IfErr, length};
 ghost use Rattle.px_column.specs.Prelude.{AnswersBy, kind_of};
 ghost use Rattle.px_context.specs.Context.{cell_kind};
-ghost use Rattle.px_group_nodes.specs.Made.{IsRefusal, KeepsGroups, counts_in};
+ghost use Rattle.px_lanes.specs.Made.{IsRefusal, KeepsGroups, counts_in};
 ghost use Rattle.px_group_nodes.specs.Sorting.{IsSorted, sort_answers, sorted_kind};
 
-use crate::each_one::{One, make_each};
 use px_column::{DataType, InvalidWhy, Px, PxError, SortOptions, Steps};
 use px_context::AggregationContext;
 use px_frame::Cell;
+use px_lanes::each_one::{One, make_each};
 use px_nodes::sort_cells;
 use std::alloc::Global;
 use std::sync::ledger::Ledger;

@@ -4,15 +4,15 @@ ghost use Rattle.std.specs.List.{list_any};
 ghost use Rattle.px_column.specs.Prelude.{AnswersBy, is_list_kind};
 ghost use Rattle.px_frame.specs.CellView.{named_cell};
 ghost use Rattle.px_context.specs.Context.{cell_kind};
-ghost use Rattle.px_group_nodes.specs.Made.{IsFault, IsRefusal, KeepsGroups, counts_in};
+ghost use Rattle.px_lanes.specs.Made.{IsFault, IsRefusal, KeepsGroups, counts_in};
 ghost use Rattle.px_group_nodes.specs.Many.{AreAllPaired};
 ghost use Rattle.px_group_nodes.specs.SortBy.{IsSortedBy, sort_by_answers, sort_by_kind};
 
 use crate::each_many::{Many, each_many};
-use crate::laying::from_lists;
 use px_column::{InvalidWhy, Px, PxError, SortMultipleOptions, Steps};
 use px_context::AggregationContext;
 use px_frame::Cell;
+use px_lanes::laying::from_lists;
 use px_nodes::sort_by_cells;
 use std::alloc::Global;
 use std::sync::ledger::Ledger;

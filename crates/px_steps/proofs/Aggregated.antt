@@ -30,7 +30,7 @@ use Rattle.px_context.specs.Changes.{KeepsType, aggregated, aggregated_in, all_r
 use Rattle.px_context.specs.Context.{Context, cell_kind, cells_in, cells_of}
 use Rattle.px_context.specs.declared.agg_state.Layout.{Layout}
 use Rattle.px_context.specs.declared.agg_state.Layout.TheVariants.{Lists, Scalars, Flat, Rows, Unit as Single}
-use Rattle.px_group_nodes.specs.Made.{named_cells, named_in}
+use Rattle.px_lanes.specs.Made.{named_cells, named_in}
 use Rattle.px_answers.specs.Planned.{Planned}
 use Rattle.px_answers.specs.Value.{IsOneOf}
 use Rattle.px_group_answers.specs.OnGroups.{AreCellsOn, IsContextOf, IsGroupCause, group_causes, group_frames, group_refusals}

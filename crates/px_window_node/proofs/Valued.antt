@@ -20,7 +20,7 @@ use Rattle.px_tree.specs.declared.window.WindowMapping.{WindowMapping}
 use Rattle.px_tree.specs.declared.window.WindowMapping.TheVariants.{GroupsToRows, Join, Explode}
 use Rattle.px_context.specs.Changes.{counts_of}
 use Rattle.px_context.specs.Context.{Context, cell_kind, cells_of, has_units}
-use Rattle.px_group_nodes.specs.Made.{named_in}
+use Rattle.px_lanes.specs.Made.{named_in}
 use Rattle.px_answers.proofs.Inputs.{one_split, parts_of}
 use Rattle.px_answers.specs.Parts.{PlannedWindow, plan_order, plan_trees, under, window_plan}
 use Rattle.px_answers.specs.Planned.{Planned}

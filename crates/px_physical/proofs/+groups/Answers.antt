@@ -8,8 +8,8 @@ use Rattle.px_tree.specs.Tree.{called}
 use Rattle.px_tree.specs.Typing.{grouped_reduction_refusals, implode_refusal, or_first, scalar_refusal}
 use Rattle.px_group_nodes.specs.Function.{IsApplied, function_answers, function_type}
 use Rattle.px_context.specs.Built.{renamed}
+use Rattle.px_lanes.specs.Made.{IsRefusal, counts_in}
 use Rattle.px_group_nodes.specs.Gather.{IsGathered, gather_answers, gathered_kind}
-use Rattle.px_group_nodes.specs.Made.{IsRefusal, counts_in}
 use Rattle.px_context.specs.Context.{Context}
 use Rattle.px_value.specs.declared.error.PxError.{PxError}
 use Rattle.px_group_nodes.specs.SortBy.{sort_by_answers, sort_by_kind}

@@ -1,11 +1,11 @@
 use Rattle.std.proofs.Common.{◌≡◌, ◌∙◌, Ok, ap, length, replicate, sym}
 use Rattle.px_frame.specs.Consecutive.{consecutive}
 use Rattle.px_context.specs.Context.{Context}
-use Rattle.px_group_nodes.specs.Alike.{flat_over}
-use Rattle.px_group_nodes.specs.Made.{named_cells}
+use Rattle.px_lanes.specs.Alike.{flat_over}
+use Rattle.px_lanes.specs.Made.{named_cells}
+use Rattle.px_lanes.proofs.Joining.{apart_count, apart_made}
+use Rattle.px_lanes.proofs.Stepping.{if_answered}
 use Rattle.px_group_nodes.specs.Reduction.{rows_apart}
-use Rattle.px_group_nodes.proofs.Joining.{apart_count, apart_made}
-use Rattle.px_group_nodes.proofs.Stepping.{if_answered}
 use Rattle.px_group_nodes.proofs.aggregation.lists_of_rows.Goals as goal
 
 pub returns-clause-cells : goal.returns-clause-cells

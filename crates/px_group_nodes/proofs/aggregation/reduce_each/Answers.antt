@@ -2,7 +2,7 @@ use Rattle.std.proofs.Common.{◌≡◌, ◌∙◌, Bool, Ok, ap, not, subst, sy
 use Rattle.px_column.specs.Prelude.{kind_of}
 use Rattle.px_column.specs.Reduction.{reduced_kind}
 use Rattle.px_context.specs.Context.{cell_kind}
-use Rattle.px_group_nodes.specs.Alike.{AreLike}
+use Rattle.px_lanes.specs.Alike.{AreLike}
 use Rattle.px_group_nodes.proofs.Reductions.{each_refused, reduction_alike}
 use Rattle.px_group_nodes.proofs.aggregation.reduce_each.Goals as goal
 

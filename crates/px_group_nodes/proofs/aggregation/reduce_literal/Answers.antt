@@ -4,7 +4,7 @@ use Rattle.px_column.specs.Prelude.{Refuses}
 use Rattle.px_frame.specs.CellView.{named_cell}
 use Rattle.px_frame.specs.Spread.{NamedCell}
 use Rattle.px_nodes.specs.Named.{aggregation_named}
-use Rattle.px_group_nodes.specs.Lane.{lane_of}
+use Rattle.px_lanes.specs.Lane.{lane_of}
 use Rattle.px_group_nodes.proofs.SameReductions.{literal_reduced, literal_refused}
 use Rattle.px_group_nodes.proofs.aggregation.reduce_literal.Goals as goal
 

@@ -4,12 +4,12 @@ use Rattle.px_frame.specs.CellView.{named_cell}
 use Rattle.px_frame.specs.declared.cell.Cell.{Cell}
 use Rattle.px_nodes.specs.Named.{function_named}
 use Rattle.px_context.specs.Context.{Context}
-use Rattle.px_group_nodes.specs.Alike.{AreLike}
+use Rattle.px_lanes.specs.Alike.{AreLike}
+use Rattle.px_lanes.proofs.Grouping.{refused_of}
 use Rattle.px_group_nodes.specs.Function.{first_context_name, first_count, function_answers, function_type, function_units}
 use Rattle.px_group_nodes.specs.Many.{answers_of_many}
 use Rattle.px_group_nodes.proofs.Across.{all_counts}
 use Rattle.px_group_nodes.proofs.Functions.{function_alike}
-use Rattle.px_group_nodes.proofs.Grouping.{refused_of}
 use Rattle.px_group_nodes.proofs.apply.apply_each.Goals as goal
 
 pub each_many-requires : goal.each_many-requires

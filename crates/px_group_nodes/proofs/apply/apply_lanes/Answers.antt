@@ -4,8 +4,8 @@ use Rattle.px_column.specs.Prelude.{Refuses}
 use Rattle.px_frame.specs.CellView.{named_cell}
 use Rattle.px_frame.specs.Spread.{NamedCell}
 use Rattle.px_nodes.specs.Named.{function_named}
+use Rattle.px_lanes.specs.Made.{counts_in}
 use Rattle.px_group_nodes.specs.Function.{function_answers}
-use Rattle.px_group_nodes.specs.Made.{counts_in}
 use Rattle.px_group_nodes.proofs.ManyLanes.{lanes_kept, lanes_lane, lanes_lent, lanes_made, lanes_of, lanes_refused, sound_lent, stands_many}
 use Rattle.px_group_nodes.proofs.apply.apply_lanes.Goals as goal
 

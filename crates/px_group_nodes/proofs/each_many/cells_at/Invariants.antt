@@ -1,6 +1,6 @@
 use Rattle.std.proofs.Common.{map, take}
 use Rattle.px_frame.specs.CellView.{named_cell}
-use Rattle.px_group_nodes.specs.Made.{named_cells}
+use Rattle.px_lanes.specs.Made.{named_cells}
 use Rattle.px_group_nodes.specs.Many.{AreAt}
 use Rattle.px_group_nodes.proofs.each_many.cells_at.Given as goal
 

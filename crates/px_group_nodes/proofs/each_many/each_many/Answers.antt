@@ -3,7 +3,7 @@ use Rattle.std.proofs.lemmas.List.{map_push}
 use Rattle.std.proofs.lemmas.Result.{err_from_is_err_and}
 use Rattle.px_frame.specs.CellView.{named_cell}
 use Rattle.px_frame.specs.declared.cell.Cell.{Cell}
-use Rattle.px_group_nodes.specs.Made.{named_cells}
+use Rattle.px_lanes.specs.Made.{named_cells}
 use Rattle.px_group_nodes.specs.Many.{across}
 use Rattle.px_group_nodes.proofs.Across.{across_at, length_across, many_made, many_more, many_refused}
 use Rattle.px_group_nodes.proofs.each_many.each_many.Goals as goal

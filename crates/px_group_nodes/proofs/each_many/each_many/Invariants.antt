@@ -1,6 +1,6 @@
 use Rattle.std.proofs.Common.{◌≡◌, ◌+◌, ◌≤◌, ◌++◌, Ok, drop, length, map}
 use Rattle.px_frame.specs.CellView.{named_cell}
-use Rattle.px_group_nodes.specs.Made.{named_cells}
+use Rattle.px_lanes.specs.Made.{named_cells}
 use Rattle.px_group_nodes.specs.Many.{across, answers_of_many}
 use Rattle.px_group_nodes.proofs.each_many.each_many.Given as goal
 

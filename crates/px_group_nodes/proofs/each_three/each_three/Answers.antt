@@ -4,7 +4,7 @@ use Rattle.std.proofs.lemmas.Result.{err_from_is_err_and}
 use Rattle.px_frame.specs.CellView.{named_cell}
 use Rattle.px_frame.specs.Groups.{Groups}
 use Rattle.px_frame.specs.declared.cell.Cell.{Cell}
-use Rattle.px_group_nodes.specs.Made.{named_cells}
+use Rattle.px_lanes.specs.Made.{named_cells}
 use Rattle.px_group_nodes.specs.Three.{answers_of_three}
 use Rattle.px_group_nodes.proofs.Threes.{named_count, three_made, three_more, three_refused}
 use Rattle.px_group_nodes.proofs.each_three.each_three.Goals as goal

@@ -1,6 +1,6 @@
 use Rattle.std.proofs.Common.{◌≡◌, ◌+◌, ◌≤◌, ◌++◌, Ok, drop, map, length}
 use Rattle.px_frame.specs.CellView.{named_cell}
-use Rattle.px_group_nodes.specs.Made.{named_cells}
+use Rattle.px_lanes.specs.Made.{named_cells}
 use Rattle.px_group_nodes.specs.Three.{answers_of_three}
 use Rattle.px_group_nodes.proofs.each_three.each_three.Given as goal
 

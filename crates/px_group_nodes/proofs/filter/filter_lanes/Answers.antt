@@ -1,11 +1,11 @@
 use Rattle.std.proofs.Common.{◌≡◌, ◌∙◌, ap, sym, true}
 use Rattle.px_column.specs.Operator.{is_boolean_kind}
 use Rattle.px_context.specs.Context.{cell_kind}
+use Rattle.px_lanes.specs.Lane.{lane_of}
+use Rattle.px_lanes.proofs.Stepping.{if_answered}
 use Rattle.px_group_nodes.specs.Filter.{IsFiltered}
 use Rattle.px_group_nodes.specs.Kept.{kept_flat}
-use Rattle.px_group_nodes.specs.Lane.{lane_of}
 use Rattle.px_group_nodes.proofs.Masking.{untouched_filtered}
-use Rattle.px_group_nodes.proofs.Stepping.{if_answered}
 use Rattle.px_group_nodes.proofs.filter.filter_lanes.Goals as goal
 
 pub returns-then-is_untouched-clause-made : goal.returns-then-is_untouched-clause-made

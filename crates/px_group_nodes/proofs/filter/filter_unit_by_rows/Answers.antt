@@ -6,13 +6,13 @@ use Rattle.px_frame.specs.Cell.{Cell, rows}
 use Rattle.px_frame.specs.Groups.{Groups}
 use Rattle.px_context.specs.Built.{with_flat}
 use Rattle.px_context.specs.Context.{Context}
+use Rattle.px_lanes.specs.Lane.{lane_of}
+use Rattle.px_lanes.proofs.Lanes.{unit_one}
+use Rattle.px_lanes.proofs.Stepping.{if_answered}
 use Rattle.px_group_nodes.specs.Filter.{IsFiltered}
 use Rattle.px_group_nodes.specs.Kept.{has_one_row, kept_flat}
-use Rattle.px_group_nodes.specs.Lane.{lane_of}
-use Rattle.px_group_nodes.proofs.Lanes.{unit_one}
 use Rattle.px_group_nodes.proofs.Masking.{flat_mask}
 use Rattle.px_group_nodes.proofs.Singling.{singles_filtered, singles_refused, spread_unit}
-use Rattle.px_group_nodes.proofs.Stepping.{if_answered}
 use Rattle.px_group_nodes.proofs.filter.filter_unit_by_rows.Goals as goal
 
 pub returns-then-not-have_one_row-clause-refused : goal.returns-then-not-have_one_row-clause-refused

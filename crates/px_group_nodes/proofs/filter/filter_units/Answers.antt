@@ -4,8 +4,8 @@ use Rattle.px_column.specs.Prelude.{Refuses}
 use Rattle.px_frame.specs.CellView.{named_cell}
 use Rattle.px_nodes.specs.Named.{filter_named}
 use Rattle.px_context.specs.Built.{with_lit}
+use Rattle.px_lanes.specs.Lane.{lane_of}
 use Rattle.px_group_nodes.specs.Filter.{IsFiltered}
-use Rattle.px_group_nodes.specs.Lane.{lane_of}
 use Rattle.px_group_nodes.proofs.Singling.{units_filtered, units_refused}
 use Rattle.px_group_nodes.proofs.filter.filter_units.Goals as goal
 

@@ -3,7 +3,7 @@ use Rattle.std.proofs.lemmas.List.{map_push}
 use Rattle.px_frame.specs.CellView.{named_cell}
 use Rattle.px_frame.specs.Groups.{Groups}
 use Rattle.px_frame.specs.declared.cell.Cell.{Cell}
-use Rattle.px_group_nodes.specs.Lane.{lane_of}
+use Rattle.px_lanes.specs.Lane.{lane_of}
 use Rattle.px_group_nodes.specs.Lanes.{IsSound}
 use Rattle.px_group_nodes.proofs.Across.{taken}
 use Rattle.px_group_nodes.proofs.ManyLanes.{sound_more}

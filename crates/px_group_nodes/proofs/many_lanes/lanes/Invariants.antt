@@ -1,7 +1,7 @@
 use Rattle.std.proofs.Common.{◌≡◌, ◌<◌, ℕ, get_or, map, take}
 use Rattle.px_frame.specs.CellView.{named_cell}
 use Rattle.px_context.specs.Context.{Context}
-use Rattle.px_group_nodes.specs.Lane.{lane_of}
+use Rattle.px_lanes.specs.Lane.{lane_of}
 use Rattle.px_group_nodes.specs.Lanes.{IsSound}
 use Rattle.px_group_nodes.proofs.many_lanes.lanes.Given as goal
 

@@ -2,9 +2,9 @@ use Rattle.std.proofs.Common.{◌≡◌, List, Ok, length, map, refl, subst, sym
 use Rattle.px_column.specs.Prelude.{kind_of}
 use Rattle.px_frame.specs.CellView.{named_cell}
 use Rattle.px_frame.specs.declared.cell.Cell.{Cell}
-use Rattle.px_group_nodes.specs.Alike.{AreLike}
-use Rattle.px_group_nodes.specs.Made.{answers_of_two, named_cells}
-use Rattle.px_group_nodes.proofs.Grouping.{made_of}
+use Rattle.px_lanes.specs.Alike.{AreLike}
+use Rattle.px_lanes.specs.Made.{answers_of_two, named_cells}
+use Rattle.px_lanes.proofs.Grouping.{made_of}
 use Rattle.px_group_nodes.proofs.Pairing.{refusal_of}
 use Rattle.px_group_nodes.proofs.pairs.make_each.Goals as goal
 

@@ -4,7 +4,7 @@ use Rattle.std.proofs.lemmas.Int.{ints}
 use Rattle.std.proofs.lemmas.Result.{err_from_is_err_and}
 use Rattle.px_context.specs.Context.{cell_kind}
 use Rattle.px_tree.specs.Typing.{is_integer_or_null}
-use Rattle.px_group_nodes.specs.Made.{counts_in}
+use Rattle.px_lanes.specs.Made.{counts_in}
 use Rattle.px_group_nodes.specs.Slice.{IsSliced, slice_answers}
 use Rattle.px_group_nodes.specs.Windows.{windows_of}
 use Rattle.px_group_nodes.proofs.SlicesFlat.{flat_denied, flat_sliced}

@@ -3,7 +3,7 @@ use Rattle.px_column.specs.Prelude.{Series, kind_of}
 use Rattle.px_frame.specs.CellView.{named_cell}
 use Rattle.px_frame.specs.declared.cell.Cell.{Cell}
 use Rattle.px_context.specs.Context.{cell_kind}
-use Rattle.px_group_nodes.specs.Alike.{AreLike}
+use Rattle.px_lanes.specs.Alike.{AreLike}
 use Rattle.px_group_nodes.proofs.SortedBy.{sorted_alike}
 use Rattle.px_group_nodes.proofs.sort_by.sort_by_groups.Goals as goal
 

@@ -1,6 +1,6 @@
 use Rattle.std.proofs.lemmas.Result.{err_from_is_err_and}
 use Rattle.px_frame.specs.CellView.{named_cell}
-use Rattle.px_group_nodes.specs.Made.{counts_in}
+use Rattle.px_lanes.specs.Made.{counts_in}
 use Rattle.px_group_nodes.specs.Ternary.{ternary_answers}
 use Rattle.px_group_nodes.proofs.Ternaries.{lanes_denied, lanes_kept, lanes_lane, lanes_made, lanes_stand}
 use Rattle.px_group_nodes.proofs.ternary.choose_lanes.Goals as goal

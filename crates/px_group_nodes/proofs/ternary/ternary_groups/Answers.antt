@@ -1,6 +1,6 @@
 use Rattle.std.proofs.Common.{◌∙◌, ◌&&◌, sym}
 use Rattle.px_value.proofs.FitLaws.{both}
-use Rattle.px_group_nodes.specs.Lane.{has_lane}
+use Rattle.px_lanes.specs.Lane.{has_lane}
 use Rattle.px_group_nodes.proofs.ternary.ternary_groups.Goals as goal
 
 pub choose_lanes-requires-clause-predicate : goal.choose_lanes-requires-clause-predicate

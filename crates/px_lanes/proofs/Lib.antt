@@ -1,0 +1,9 @@
+pub mod Rowwise
+pub mod Lanes
+pub mod Stepping
+pub mod Joining
+pub mod Likeness
+pub mod Grouping
+pub mod Operators
+pub mod OneInput
+pub mod Casts
