@@ -1,5 +1,5 @@
 //! How deep expressions are.
-ghost use Rattle.std.specs.Prelude.{◌≡◌, nat_le};
+ghost use Rattle.std.specs.Prelude.{◌≡◌, max, nat_le};
 ghost use Rattle.px_tree.specs.View.{tree, trees, agg_tree, order_tree};
 ghost use Rattle.px_conversion.specs.Depth.{depth_of, all_depth_of, order_depth_of, is_too_deep};
 
@@ -27,22 +27,22 @@ fn reaches(expr: &Expr, nodes: u16) -> bool
         Expr::Column(_) => below == 0,
         Expr::Literal(_) => below == 0,
         Expr::Alias(expr, _) => reaches(expr, below),
-        Expr::BinaryExpr { left, right, .. } => reaches(left, below) || reaches(right, below),
+        Expr::BinaryExpr { left, right, .. } => either_reaches(left, right, below),
         Expr::Ternary {
             predicate,
             truthy,
             falsy,
-        } => reaches(predicate, below) || reaches(truthy, below) || reaches(falsy, below),
+        } => one_of_three_reaches(predicate, truthy, falsy, below),
         Expr::Cast { expr, .. } => reaches(expr, below),
         Expr::Function { input, .. } => one_reaches(input, below),
         Expr::Explode(expr) => reaches(expr, below),
-        Expr::Filter { input, by } => reaches(input, below) || reaches(by, below),
+        Expr::Filter { input, by } => either_reaches(input, by, below),
         Expr::Slice {
             input,
             offset,
             length,
-        } => reaches(input, below) || reaches(offset, below) || reaches(length, below),
-        Expr::Gather { expr, idx, .. } => reaches(expr, below) || reaches(idx, below),
+        } => one_of_three_reaches(input, offset, length, below),
+        Expr::Gather { expr, idx, .. } => either_reaches(expr, idx, below),
         Expr::Sort { expr, .. } => reaches(expr, below),
         Expr::SortBy { expr, by, .. } => reaches(expr, below) || one_reaches(by, below),
         Expr::Agg(reduction) => reduced_reaches(reduction, nodes),
@@ -58,6 +58,21 @@ fn reaches(expr: &Expr, nodes: u16) -> bool
                 || order_reaches(order_by, below)
         }
     }
+}
+
+#[cycle(depth)]
+fn either_reaches(first: &Expr, second: &Expr, nodes: u16) -> bool
+    ensures { result ≡ nat_le nodes (max (depth_of (tree first.now)) (depth_of (tree second.now))) }
+{
+    reaches(first, nodes) || reaches(second, nodes)
+}
+
+#[cycle(depth)]
+fn one_of_three_reaches(first: &Expr, second: &Expr, third: &Expr, nodes: u16) -> bool
+    ensures { result ≡ nat_le nodes
+        (max (depth_of (tree first.now)) (max (depth_of (tree second.now)) (depth_of (tree third.now)))) }
+{
+    reaches(first, nodes) || either_reaches(second, third, nodes)
 }
 
 #[cycle(depth)]
