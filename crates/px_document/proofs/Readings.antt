@@ -1,12 +1,15 @@
 -- What the readers of types, bytes and places have read, step by step.
-use Rattle.std.proofs.Common.{map, ◌≡◌, ◌≢◌, ◌≤◌, ◌-◌, ℕ, zero, suc, List, [], ◌∷◌, ◌++◌, length, drop, get_or, refl, ap, append_assoc, arith, true, false, ◌+◌, ◌<◌, Option, Some, None, option_map}
+use Rattle.std.proofs.Common.{map, ◌≡◌, ◌≢◌, ◌≤◌, ◌-◌, ◌∙◌, ℕ, zero, suc, List, [], ◌∷◌, ◌++◌, length, drop, get_or, refl, ap, append_assoc, append-nil, arith, true, false, ◌+◌, ◌<◌, Option, Some, None, option_map}
+use Rattle.std.proofs.lemmas.List.{drop_all}
 use Rattle.std.specs.Option.{option_or, option_and_then, is_some}
+use Rattle.std.specs.Prelude.{Result, Ok, Err}
+use Rattle.std.specs.Result.{IsErr}
 use Rattle.serde_json.specs.Data.{Data}
 use Rattle.serde_json.specs.Find.{as_null}
 use Rattle.px_column.specs.Prelude.{Datum, Kind, booleans, int8s, int16s, int32s, int64s, uint8s, uint16s, uint32s, uint64s, strings, binaries, nulls, lists}
 use Rattle.px_document.specs.Document.{bytes_of_hex, hex_byte, in_list, kind_within, short_list, place_of, simple_kind, unless_null}
 use Rattle.px_column.specs.Option.{◌>>=◌, each}
-use Rattle.px_document.specs.Form.{Misses, items, with_front}
+use Rattle.px_document.specs.Form.{Misses, ReadsBy, items, with_front}
 use Rattle.px_document.specs.declared.document.fault.DocumentFault.{DocumentFault}
 use Rattle.px_document.specs.declared.document.fault.DocumentFault.TheVariants.{BadDocument, OutOfMemory}
 
@@ -17,6 +20,17 @@ kind_within_more (suc n) s h = let e : suc n - 1 ≡ n = omega arith in rw e ref
 with_front_more : {A : Type 0} (front : List A) (x : A) (rest : Option (List A)) → with_front (front ++ x ∷ []) rest ≡ with_front front (option_map (λ xs. x ∷ xs) rest)
 with_front_more front x None = refl
 with_front_more front x (Some ys) = ap Some (append_assoc front (x ∷ []) ys)
+
+-- where nothing was made so far
+pub with_front_none : {A : Type 0} (rest : Option (List A)) → with_front [] rest ≡ rest
+with_front_none None = refl
+with_front_none (Some ys) = refl
+
+-- what was refused, where there is nothing to read
+pub refused : {X Y : Type 0} (r : Result X DocumentFault) (view : X → Y) (o : Option Y) → IsErr r → o ≡ None → ReadsBy view r o
+refused (Ok x) view o e h = absurd (cc)
+refused (Err BadDocument) view o e h = h
+refused (Err OutOfMemory) view o e h = tt
 
 -- what is made of the item at i, before what is made of the items after it
 pub each_step : {V A B : Type 0} (seen : V → A) (f : A → Option B) (vs : List V) (i : ℕ) (v : V) (front : List B) (y : B) → i < length vs → v ≡ get_or vs i v → f (seen v) ≡ Some y → with_front (front ++ y ∷ []) (each f (map seen (drop (i + 1) vs))) ≡ with_front front (each f (map seen (drop i vs)))
@@ -44,6 +58,19 @@ hex_left [] i l m = absurd (omega (arith, l))
 hex_left (a ∷ []) zero l m = refl
 hex_left (a ∷ b ∷ s) zero l m = absurd (omega (arith, m))
 hex_left (a ∷ s) (suc i) l m = hex_left s i (omega (arith, l)) (omega (arith, m))
+
+-- two digits at i that write no byte
+pub hex_missed : (s : List ℕ) (i : ℕ) → 2 ≤ length s - i → hex_byte (get_or s i 0) (get_or s (i + 1) 0) ≡ None → bytes_of_hex (drop i s) ≡ None
+hex_missed [] i l h = absurd (omega (arith, l))
+hex_missed (a ∷ []) zero l h = absurd (omega (arith, l))
+hex_missed (a ∷ b ∷ s) zero l h = rw h refl
+hex_missed (a ∷ s) (suc i) l h =
+    let next : suc i + 1 ≡ suc (i + 1) = omega arith in
+    hex_missed s i (omega (arith, l)) (rw next at h)
+
+-- where no digit is left
+pub hex_end : (front s : List ℕ) (i : ℕ) → length s ≤ i → with_front front (bytes_of_hex (drop i s)) ≡ Some front
+hex_end front s i l = ap (λ r. with_front front (bytes_of_hex r)) (drop_all i s l) ∙ ap Some (append-nil front)
 
 null_place : (d : Data) (o : Option Datum) → is_some (as_null d) ≡ true → unless_null d o ≡ Some None
 null_place d o h = rw h refl

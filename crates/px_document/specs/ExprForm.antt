@@ -1,5 +1,5 @@
 -- What JSON data says as an expression. An object has one key, which tells the kind of the expression.
-use Rattle.std.specs.Prelude.{ℕ, zero, suc, ℤ, Bool, false, List, [], ◌∷◌, Option, Some, None, codes, is_some, option_map, unwrap_or, if◌then◌else◌}
+use Rattle.std.specs.Prelude.{ℕ, zero, suc, ℤ, Bool, false, List, [], ◌∷◌, ◌++◌, Option, Some, None, codes, is_some, option_map, unwrap_or, if◌then◌else◌}
 use Rattle.std.specs.Option.{option_or}
 use Rattle.std.specs.Str.{bytes_eq}
 use Rattle.serde_json.specs.Data.{Data}
@@ -29,13 +29,24 @@ abbrev pub meant_by : {A : Type 0} → List (List ℕ × A) → List ℕ → Opt
 meant_by [] s = None
 meant_by (n ∷ names) s = if bytes_eq s n.0 then Some n.1 else meant_by names s
 
+-- the names of operators: those of comparisons
+abbrev pub comparisons : List (List ℕ × Operator)
+comparisons =
+    (codes "Eq", Eq) ∷ (codes "EqValidity", EqValidity) ∷ (codes "NotEq", NotEq) ∷ (codes "NotEqValidity", NotEqValidity)
+    ∷ (codes "Lt", Lt) ∷ (codes "LtEq", LtEq) ∷ (codes "Gt", Gt) ∷ (codes "GtEq", GtEq) ∷ []
+
+-- those of arithmetic
+abbrev pub arithmetic : List (List ℕ × Operator)
+arithmetic =
+    (codes "Plus", Plus) ∷ (codes "Minus", Minus) ∷ (codes "Multiply", Multiply)
+    ∷ (codes "Divide", Divide) ∷ (codes "FloorDivide", FloorDivide) ∷ (codes "Modulus", Modulus) ∷ []
+
+-- and those of logic
+abbrev pub logical : List (List ℕ × Operator)
+logical = (codes "And", And) ∷ (codes "Or", Or) ∷ (codes "Xor", Xor) ∷ (codes "LogicalAnd", LogicalAnd) ∷ (codes "LogicalOr", LogicalOr) ∷ []
+
 abbrev pub operator_named : List ℕ → Option Operator
-operator_named s = meant_by
-    ((codes "Eq", Eq) ∷ (codes "EqValidity", EqValidity) ∷ (codes "NotEq", NotEq) ∷ (codes "NotEqValidity", NotEqValidity)
-    ∷ (codes "Lt", Lt) ∷ (codes "LtEq", LtEq) ∷ (codes "Gt", Gt) ∷ (codes "GtEq", GtEq)
-    ∷ (codes "Plus", Plus) ∷ (codes "Minus", Minus) ∷ (codes "Multiply", Multiply)
-    ∷ (codes "Divide", Divide) ∷ (codes "FloorDivide", FloorDivide) ∷ (codes "Modulus", Modulus)
-    ∷ (codes "And", And) ∷ (codes "Or", Or) ∷ (codes "Xor", Xor) ∷ (codes "LogicalAnd", LogicalAnd) ∷ (codes "LogicalOr", LogicalOr) ∷ []) s
+operator_named s = meant_by (comparisons ++ (arithmetic ++ logical)) s
 
 abbrev pub cast_named : List ℕ → Option CastOptions
 cast_named s = meant_by ((codes "Strict", Strict) ∷ (codes "NonStrict", NonStrict) ∷ (codes "Overflowing", Overflowing) ∷ []) s
@@ -229,27 +240,37 @@ module _ (expr : Data → Option Tree) where
     Some (window function' (trees_of keys) order mapping)
   over_parts _ = None
 
-  -- the forms, each under its key
-  unfoldable pub expr_form : Data → Option Tree
-  expr_form d =
-      option_or (option_map column (field (codes "col") d >>= as_str))
-      (option_or (option_map literal (field (codes "lit") d >>= fields (codes "type" ∷ codes "value" ∷ []) >>= literal_parts))
-      (option_or (option_map literal (field (codes "range") d >>= fields (codes "low" ∷ codes "high" ∷ codes "type" ∷ []) >>= range_parts))
-      (option_or (option_map (λ s. literal (series s)) (field (codes "series") d >>= column_of))
-      (option_or (field (codes "alias") d >>= items >>= alias_parts)
-      (option_or (field (codes "bin") d >>= items >>= binary_parts)
-      (option_or (field (codes "when") d >>= items >>= ternary_parts)
-      (option_or (field (codes "cast") d >>= items >>= cast_parts)
-      (option_or (field (codes "fn") d >>= items >>= function_parts)
-      (option_or (option_map (λ e. function (one_tree e no_trees) as_explode) (field (codes "explode") d >>= expr))
-      (option_or (field (codes "filter") d >>= items >>= filter_parts)
+  -- what is made of all the rows of others, each form under its key
+  unfoldable pub whole_form : Data → Option Tree
+  whole_form d =
+      option_or (field (codes "filter") d >>= items >>= filter_parts)
       (option_or (field (codes "slice") d >>= items >>= slice_parts)
       (option_or (field (codes "gather") d >>= items >>= gather_parts)
       (option_or (field (codes "sort") d >>= items >>= sort_parts)
       (option_or (field (codes "sort_by") d >>= items >>= sort_by_parts)
       (option_or (field (codes "agg") d >>= items >>= reduction_parts)
       (option_or (option_map (λ _. len) (field (codes "len") d >>= as_null))
-      (field (codes "over") d >>= fields (codes "function" ∷ codes "keys" ∷ codes "order" ∷ codes "mapping" ∷ []) >>= over_parts)))))))))))))))))
+      (field (codes "over") d >>= fields (codes "function" ∷ codes "keys" ∷ codes "order" ∷ codes "mapping" ∷ []) >>= over_parts)))))))
+
+  -- what is made of others row by row, or of all their rows
+  unfoldable pub row_form : Data → Option Tree
+  row_form d =
+      option_or (field (codes "alias") d >>= items >>= alias_parts)
+      (option_or (field (codes "bin") d >>= items >>= binary_parts)
+      (option_or (field (codes "when") d >>= items >>= ternary_parts)
+      (option_or (field (codes "cast") d >>= items >>= cast_parts)
+      (option_or (field (codes "fn") d >>= items >>= function_parts)
+      (option_or (option_map (λ e. function (one_tree e no_trees) as_explode) (field (codes "explode") d >>= expr))
+      (whole_form d))))))
+
+  -- all the forms
+  unfoldable pub expr_form : Data → Option Tree
+  expr_form d =
+      option_or (option_map column (field (codes "col") d >>= as_str))
+      (option_or (option_map literal (field (codes "lit") d >>= fields (codes "type" ∷ codes "value" ∷ []) >>= literal_parts))
+      (option_or (option_map literal (field (codes "range") d >>= fields (codes "low" ∷ codes "high" ∷ codes "type" ∷ []) >>= range_parts))
+      (option_or (option_map (λ s. literal (series s)) (field (codes "series") d >>= column_of))
+      (row_form d))))
 
 -- an expression with at most n expressions inside one another
 abbrev pub expr_within : ℕ → Data → Option Tree

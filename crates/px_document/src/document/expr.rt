@@ -5,7 +5,7 @@ ghost use Rattle.serde_json.specs.View.{view};
 ghost use Rattle.px_column.specs.Option.{each};
 ghost use Rattle.px_tree.specs.Tree.{column, len, trees_of};
 ghost use Rattle.px_tree.specs.View.{tree, trees};
-ghost use Rattle.px_document.specs.ExprForm.{expr_form, expr_of, expr_within};
+ghost use Rattle.px_document.specs.ExprForm.{expr_form, expr_of, expr_within, row_form, whole_form};
 ghost use Rattle.px_document.specs.Form.{ReadsBy, items, single_member};
 
 use crate::document::fault::DocumentFault;
@@ -40,6 +40,50 @@ fn read_length(value: &Value) -> Result<Expr, DocumentFault>
     }
 }
 
+/// The expression that stands under this key, where it is made of all the rows of others.
+#[cycle(expr)]
+fn read_whole_form(
+    alloc: Global,
+    levels: u32,
+    key: &str,
+    value: &Value,
+) -> Result<Expr, DocumentFault>
+    ensures { ReadsBy tree result (whole_form (expr_within levels) (single_member key.now (view value.now))) }
+{
+    match key {
+        "filter" => read_filter(alloc, levels, value),
+        "slice" => read_slice(alloc, levels, value),
+        "gather" => read_gather(alloc, levels, value),
+        "sort" => read_sort(alloc, levels, value),
+        "sort_by" => read_sort_by(alloc, levels, value),
+        "agg" => read_reduction(alloc, levels, value),
+        "len" => read_length(value),
+        "over" => read_window(alloc, levels, value),
+        _ => Err(DocumentFault::BadDocument),
+    }
+}
+
+/// The expression that stands under this key, where it is made of others.
+#[cycle(expr)]
+fn read_row_form(
+    alloc: Global,
+    levels: u32,
+    key: &str,
+    value: &Value,
+) -> Result<Expr, DocumentFault>
+    ensures { ReadsBy tree result (row_form (expr_within levels) (single_member key.now (view value.now))) }
+{
+    match key {
+        "alias" => read_alias(alloc, levels, value),
+        "bin" => read_binary(alloc, levels, value),
+        "when" => read_ternary(alloc, levels, value),
+        "cast" => read_cast(alloc, levels, value),
+        "fn" => read_function(alloc, levels, value),
+        "explode" => read_explode(alloc, levels, value),
+        _ => read_whole_form(alloc, levels, key, value),
+    }
+}
+
 /// The expression that stands under this key.
 #[cycle(expr)]
 fn read_form(alloc: Global, levels: u32, key: &str, value: &Value) -> Result<Expr, DocumentFault>
@@ -50,21 +94,7 @@ fn read_form(alloc: Global, levels: u32, key: &str, value: &Value) -> Result<Exp
         "lit" => read_literal(alloc, value),
         "range" => read_integers(alloc, value),
         "series" => read_series(alloc, value),
-        "alias" => read_alias(alloc, levels, value),
-        "bin" => read_binary(alloc, levels, value),
-        "when" => read_ternary(alloc, levels, value),
-        "cast" => read_cast(alloc, levels, value),
-        "fn" => read_function(alloc, levels, value),
-        "explode" => read_explode(alloc, levels, value),
-        "filter" => read_filter(alloc, levels, value),
-        "slice" => read_slice(alloc, levels, value),
-        "gather" => read_gather(alloc, levels, value),
-        "sort" => read_sort(alloc, levels, value),
-        "sort_by" => read_sort_by(alloc, levels, value),
-        "agg" => read_reduction(alloc, levels, value),
-        "len" => read_length(value),
-        "over" => read_window(alloc, levels, value),
-        _ => Err(DocumentFault::BadDocument),
+        _ => read_row_form(alloc, levels, key, value),
     }
 }
 

@@ -26,7 +26,6 @@ fn hex_byte(high: u8, low: u8) -> Option<u8>
 }
 
 /// The bytes of a text of an even number of digits 0-9a-f, two a byte.
-#[tactic(auto, using(crate::proofs::Readings::hex_step, crate::proofs::Readings::hex_left))]
 pub(crate) fn read_hexadecimal(alloc: Global, text: &[u8]) -> Result<Vec<u8>, DocumentFault>
     ensures { ReadsBy (λ v. v.items) result (bytes_of_hex text.now) }
 {

@@ -2,7 +2,7 @@
 ghost use Rattle.std.specs.Prelude.{◌≡◌, option_and_then};
 ghost use Rattle.serde_json.specs.Find.{as_str};
 ghost use Rattle.serde_json.specs.View.{view};
-ghost use Rattle.px_document.specs.ExprForm.{cast_named, closed_named, function_named, is_text, mapping_named, operator_named, reduction_named};
+ghost use Rattle.px_document.specs.ExprForm.{arithmetic, cast_named, closed_named, comparisons, function_named, is_text, logical, mapping_named, meant_by, operator_named, reduction_named};
 ghost use Rattle.px_document.specs.Form.{Reads};
 
 use crate::document::fault::DocumentFault;
@@ -20,8 +20,9 @@ pub(crate) fn is_text(name: &str, value: &Value) -> bool
     }
 }
 
-fn operator_named(text: &str) -> Option<Operator>
-    ensures { result ≡ operator_named text.now }
+/// A comparison's operator.
+fn comparison_named(text: &str) -> Option<Operator>
+    ensures { result ≡ meant_by comparisons text.now }
 {
     match text {
         "Eq" => Some(Operator::Eq),
@@ -32,12 +33,30 @@ fn operator_named(text: &str) -> Option<Operator>
         "LtEq" => Some(Operator::LtEq),
         "Gt" => Some(Operator::Gt),
         "GtEq" => Some(Operator::GtEq),
+        _ => None,
+    }
+}
+
+/// An operator of arithmetic.
+fn arithmetic_named(text: &str) -> Option<Operator>
+    ensures { result ≡ meant_by arithmetic text.now }
+{
+    match text {
         "Plus" => Some(Operator::Plus),
         "Minus" => Some(Operator::Minus),
         "Multiply" => Some(Operator::Multiply),
         "Divide" => Some(Operator::Divide),
         "FloorDivide" => Some(Operator::FloorDivide),
         "Modulus" => Some(Operator::Modulus),
+        _ => None,
+    }
+}
+
+/// An operator of logic.
+fn logical_named(text: &str) -> Option<Operator>
+    ensures { result ≡ meant_by logical text.now }
+{
+    match text {
         "And" => Some(Operator::And),
         "Or" => Some(Operator::Or),
         "Xor" => Some(Operator::Xor),
@@ -45,6 +64,18 @@ fn operator_named(text: &str) -> Option<Operator>
         "LogicalOr" => Some(Operator::LogicalOr),
         _ => None,
     }
+}
+
+fn operator_named(text: &str) -> Option<Operator>
+    ensures { result ≡ operator_named text.now }
+{
+    if let Some(operator) = comparison_named(text) {
+        return Some(operator);
+    }
+    if let Some(operator) = arithmetic_named(text) {
+        return Some(operator);
+    }
+    logical_named(text)
 }
 
 fn cast_named(text: &str) -> Option<CastOptions>
