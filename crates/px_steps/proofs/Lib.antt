@@ -1,5 +1,8 @@
 pub mod Found
 pub mod Misfits
+pub mod FirstStep
+pub mod Held
+pub mod Looped
 pub mod Named
 pub mod Selected
 pub mod Members

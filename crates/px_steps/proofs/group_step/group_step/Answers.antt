@@ -12,6 +12,7 @@ use Rattle.px_tree.specs.declared.context.Context.TheVariants.{Aggregation, Defa
 use Rattle.px_window.specs.State.{beside}
 use Rattle.px_steps.specs.Finds.{Finds, Lacks, agg_faults, key_faults, part_frames}
 use Rattle.px_steps.specs.Plain.{columns_on, greatest, key_on}
+use Rattle.px_steps.proofs.Held.{ok_same}
 use Rattle.px_steps.proofs.GroupStep.{group_answer, key_cause, keys_fit, keys_typed, names_once, refusals_apart, some_column, step_accepted, step_first}
 use Rattle.px_steps.proofs.Kernels.{grouped_both, least_both, most_both, on_ok_so, within_both, within_first}
 use Rattle.px_steps.proofs.Members.{on_ok}
@@ -22,7 +23,7 @@ pub returns-in_err-nodes-clause-answer : goal.returns-in_err-nodes-clause-answer
 returns-in_err-nodes-clause-answer g c =
     let p = err_from_is_err_and c.from_residual-in_err-nodes.result c.from_residual-in_err-nodes.ensures.1 in
     let F = beside c.args.frame.now c.args.state.now in
-    let scope : c.in_ok-schema.schema.value ≡ scope_of F = cc (c.in_ok-schema.ensures) in
+    let scope : c.in_ok-schema.schema.value ≡ scope_of F = ok_same _ _ c.in_ok-schema.ensures in
     rw (p.1, p.2) (step_first c.in_err-nodes.field-0.0 (map tree c.args.keys.now) (map tree c.args.aggs.now) F c.in_ok-schema.schema.value scope c.in_err-nodes.ensures)
 
 pub key_columns-requires : goal.key_columns-requires
@@ -30,7 +31,7 @@ key_columns-requires g c =
     let F = beside c.args.frame.now c.args.state.now in
     let ks = map tree c.args.keys.now in
     let over = c.in_ok-schema.schema.value in
-    let scope : over ≡ scope_of F = cc (c.in_ok-schema.ensures) in
+    let scope : over ≡ scope_of F = ok_same _ _ c.in_ok-schema.ensures in
     let made = planned_both over ks (map tree c.args.aggs.now) c.in_ok-nodes.nodes c.in_ok-nodes.ensures.1 in
     let apart = refusals_apart F ks (map tree c.args.aggs.now) (step_accepted ks (map tree c.args.aggs.now) F over scope c.in_ok-nodes.ensures.0) in
     rw c.deref.ensures.value (are_accepted F over Default ks c.in_ok-nodes.nodes.keys.items scope made.0 (keys_typed F ks apart.1))
@@ -43,7 +44,7 @@ returns-in_err-by-clause-answer g c =
     let keys = map tree c.args.keys.now in
     let aggs = map tree c.args.aggs.now in
     let over = c.in_ok-schema.schema.value in
-    let scope : over ≡ scope_of F = cc (c.in_ok-schema.ensures) in
+    let scope : over ≡ scope_of F = ok_same _ _ c.in_ok-schema.ensures in
     let made = planned_both over keys aggs c.in_ok-nodes.nodes c.in_ok-nodes.ensures.1 in
     let ks = same_trees over keys c.in_ok-nodes.nodes.keys.items made.0 in
     rw (p.1, p.2)
@@ -63,7 +64,7 @@ grouped_frame-requires g c =
     let keys = map tree c.args.keys.now in
     let aggs = map tree c.args.aggs.now in
     let over = c.in_ok-schema.schema.value in
-    let scope : over ≡ scope_of F = cc (c.in_ok-schema.ensures) in
+    let scope : over ≡ scope_of F = ok_same _ _ c.in_ok-schema.ensures in
     let apart = refusals_apart F keys aggs (step_accepted keys aggs F over scope c.in_ok-nodes.ensures.0) in
     let made = planned_both over keys aggs c.in_ok-nodes.nodes c.in_ok-nodes.ensures.1 in
     let ks = same_trees over keys c.in_ok-nodes.nodes.keys.items made.0 in
@@ -83,7 +84,7 @@ returns-clause-answer g c =
     let keys = map tree c.args.keys.now in
     let aggs = map tree c.args.aggs.now in
     let over = c.in_ok-schema.schema.value in
-    let scope : over ≡ scope_of F = cc (c.in_ok-schema.ensures) in
+    let scope : over ≡ scope_of F = ok_same _ _ c.in_ok-schema.ensures in
     let made = planned_both over keys aggs c.in_ok-nodes.nodes c.in_ok-nodes.ensures.1 in
     let ks = same_trees over keys c.in_ok-nodes.nodes.keys.items made.0 in
     let ns = same_trees over aggs c.in_ok-nodes.nodes.aggs.items made.1 in

@@ -3,6 +3,7 @@ use Rattle.std.proofs.lemmas.Result.{IfOk-weaker}
 use Rattle.px_document.specs.DocumentView.{document_view}
 use Rattle.px_window.specs.State.{new_state}
 use Rattle.px_steps.specs.Replies.{Bounded, Grouped, Replies, Ticked}
+use Rattle.px_steps.proofs.Held.{ok_same}
 use Rattle.px_steps.proofs.Replied.{bounded_by, document_unchunked, is_result, is_refusal, grouped_by, ticked_by, with_cause}
 use Rattle.px_steps.proofs.reply.reply_to.Goals as goal
 
@@ -28,7 +29,7 @@ returns-in-Ok-run_steps-clause-ticks g c =
 pub returns-in-Ok-run_steps-clause-most : goal.returns-in-Ok-run_steps-clause-most
 returns-in-Ok-run_steps-clause-most g c =
     let doc = document_view c.in-Ok.document in
-    let state : c.in-Ok-new.state ≡ new_state false = cc (c.in-Ok-new.ensures) in
+    let state : c.in-Ok-new.state ≡ new_state false = ok_same _ _ c.in-Ok-new.ensures in
     let bound = rw (c.deref.ensures.value, state) at c.in-Ok-run_steps.ensures.most in
     IfOk-weaker c.frame_reply.result _ _
     (λ r e. subst (λ x. Bounded c.args.bytes.now x c.args.kernels.now c.run_steps.new.kernels) (sym e.1) (bounded_by c.args.bytes.now doc c.args.kernels.now c.run_steps.new.kernels c.in-Ok.ensures.found bound))
@@ -37,7 +38,7 @@ returns-in-Ok-run_steps-clause-most g c =
 pub returns-in-Ok-run_steps-clause-reply : goal.returns-in-Ok-run_steps-clause-reply
 returns-in-Ok-run_steps-clause-reply g c =
     let doc = document_view c.in-Ok.document in
-    let state : c.in-Ok-new.state ≡ new_state false = cc (c.in-Ok-new.ensures) in
+    let state : c.in-Ok-new.state ≡ new_state false = ok_same _ _ c.in-Ok-new.ensures in
     let run = rw (c.deref.ensures.value, state) at c.in-Ok-run_steps.ensures.run in
     let plain = rw (c.deref.ensures.value, state) at c.in-Ok-run_steps.ensures.plain in
     IfOk-weaker c.frame_reply.result _ _
@@ -47,7 +48,7 @@ returns-in-Ok-run_steps-clause-reply g c =
 pub returns : goal.returns
 returns g c =
     let doc = document_view c.in-Ok.document in
-    let state : c.in-Ok-new.state ≡ new_state false = cc (c.in-Ok-new.ensures) in
+    let state : c.in-Ok-new.state ≡ new_state false = ok_same _ _ c.in-Ok-new.ensures in
     let cause = rw (c.deref.ensures.value, state) at c.in-Err.ensures.causes in
     record {
       reply = with_cause c.fault_reply.result _ _ _ c.fault_reply.ensures.line c.fault_reply.ensures.cause

@@ -14,6 +14,7 @@ use Rattle.px_tree.specs.View.{tree}
 use Rattle.px_tree.specs.Tree.{Tree}
 use Rattle.px_steps.specs.Finds.{node_tree}
 use Rattle.px_steps.specs.Meets.{IsFirst}
+use Rattle.px_steps.proofs.Held.{ok_same}
 use Rattle.px_steps.proofs.Nodes.{same_trees}
 use Rattle.px_steps.proofs.Selected.{all_windows, cells_fit, cells_named, cells_sound, least_ticks, naming_cause, nodes_over, selected, typed_over, typing_cause, value_cause}
 use Rattle.px_steps.proofs.Members.{on_ok}
@@ -25,7 +26,7 @@ returns-in_err-nodes-clause-answer g c =
     let F = beside c.args.frame.now c.args.state.now in
     let ts = map tree c.args.exprs.now in
     let e = c.in_err-nodes.field-0.0 in
-    let scope : c.in_ok-schema.schema.value ≡ scope_of F = cc (c.in_ok-schema.ensures) in
+    let scope : c.in_ok-schema.schema.value ≡ scope_of F = ok_same _ _ c.in_ok-schema.ensures in
     rw (p.1, p.2) (typing_cause e ts F (subst (λ (es : List PxError). IsFirst e es) (typed_over c.in_ok-schema.schema.value F ts scope) c.in_err-nodes.ensures))
 
 pub returns-in_err-distinct_names-clause-answer : goal.returns-in_err-distinct_names-clause-answer
@@ -33,7 +34,7 @@ returns-in_err-distinct_names-clause-answer g c =
     let p = err_from_is_err_and c.from_residual-in_err-distinct_names.result c.from_residual-in_err-distinct_names.ensures.1 in
     let F = beside c.args.frame.now c.args.state.now in
     let ts = map tree c.args.exprs.now in
-    let scope : c.in_ok-schema.schema.value ≡ scope_of F = cc (c.in_ok-schema.ensures) in
+    let scope : c.in_ok-schema.schema.value ≡ scope_of F = ok_same _ _ c.in_ok-schema.ensures in
     rw (p.1, p.2) (naming_cause c.in_err-distinct_names.field-0.0 ts F (sym (typed_over c.in_ok-schema.schema.value F ts scope) ∙ c.in_ok-nodes.ensures.0) c.in_err-distinct_names.ensures)
 
 pub returns-in_err-cells-clause-answer : goal.returns-in_err-cells-clause-answer
@@ -41,7 +42,7 @@ returns-in_err-cells-clause-answer g c =
     let p = err_from_is_err_and c.from_residual-in_err-cells.result c.from_residual-in_err-cells.ensures.1 in
     let F = beside c.args.frame.now c.args.state.now in
     let ts = map tree c.args.exprs.now in
-    let scope : c.in_ok-schema.schema.value ≡ scope_of F = cc (c.in_ok-schema.ensures) in
+    let scope : c.in_ok-schema.schema.value ≡ scope_of F = ok_same _ _ c.in_ok-schema.ensures in
     let nodes = nodes_over c.in_ok-schema.schema.value F ts c.in_ok-nodes.nodes.items scope c.in_ok-nodes.ensures.1 in
     rw (p.1, p.2)
     (value_cause c.in_err-cells.field-0.0 ts F (sym (typed_over c.in_ok-schema.schema.value F ts scope) ∙ c.in_ok-nodes.ensures.0) c.in_ok-distinct_names.ensures.0
@@ -51,7 +52,7 @@ pub returns-clause-answer : goal.returns-clause-answer
 returns-clause-answer g c =
     let F = beside c.args.frame.now c.args.state.now in
     let ts = map tree c.args.exprs.now in
-    let scope : c.in_ok-schema.schema.value ≡ scope_of F = cc (c.in_ok-schema.ensures) in
+    let scope : c.in_ok-schema.schema.value ≡ scope_of F = ok_same _ _ c.in_ok-schema.ensures in
     let nodes = nodes_over c.in_ok-schema.schema.value F ts c.in_ok-nodes.nodes.items scope c.in_ok-nodes.ensures.1 in
     let over = scope_of F in
     let found = map named_cell c.in_ok-cells.cells.items in
@@ -67,7 +68,7 @@ pub returns-in_err-cells-clause-within : goal.returns-in_err-cells-clause-within
 returns-in_err-cells-clause-within g c =
     let F = beside c.args.frame.now c.args.state.now in
     let ts = map tree c.args.exprs.now in
-    let scope : c.in_ok-schema.schema.value ≡ scope_of F = cc (c.in_ok-schema.ensures) in
+    let scope : c.in_ok-schema.schema.value ≡ scope_of F = ok_same _ _ c.in_ok-schema.ensures in
     let nodes = nodes_over c.in_ok-schema.schema.value F ts c.in_ok-nodes.nodes.items scope c.in_ok-nodes.ensures.1 in
     let windows = ap (λ (ps : List Planned). all_windows_in (plan_trees ps)) nodes ∙ all_windows (scope_of F) ts in
     subst (λ n. c.evaluate_cells.new.groupings ≤ c.args.groupings.now + n) windows (rw c.deref.ensures.value at c.in_err-cells.ensures.grouped_most.most)
@@ -79,7 +80,7 @@ pub returns-clause-within : goal.returns-clause-within
 returns-clause-within g c =
     let F = beside c.args.frame.now c.args.state.now in
     let ts = map tree c.args.exprs.now in
-    let scope : c.in_ok-schema.schema.value ≡ scope_of F = cc (c.in_ok-schema.ensures) in
+    let scope : c.in_ok-schema.schema.value ≡ scope_of F = ok_same _ _ c.in_ok-schema.ensures in
     let nodes = nodes_over c.in_ok-schema.schema.value F ts c.in_ok-nodes.nodes.items scope c.in_ok-nodes.ensures.1 in
     let windows = ap (λ (ps : List Planned). all_windows_in (plan_trees ps)) nodes ∙ all_windows (scope_of F) ts in
     subst (λ n. c.evaluate_cells.new.groupings ≤ c.args.groupings.now + n) windows (rw c.deref.ensures.value at c.in_ok-cells.ensures.grouped_most.most)
@@ -88,7 +89,7 @@ pub returns-clause-grouped : goal.returns-clause-grouped
 returns-clause-grouped g c =
     let F = beside c.args.frame.now c.args.state.now in
     let ts = map tree c.args.exprs.now in
-    let scope : c.in_ok-schema.schema.value ≡ scope_of F = cc (c.in_ok-schema.ensures) in
+    let scope : c.in_ok-schema.schema.value ≡ scope_of F = ok_same _ _ c.in_ok-schema.ensures in
     let nodes = nodes_over c.in_ok-schema.schema.value F ts c.in_ok-nodes.nodes.items scope c.in_ok-nodes.ensures.1 in
     let windows = ap (λ (ps : List Planned). all_windows_in (plan_trees ps)) nodes ∙ all_windows (scope_of F) ts in
     on_ok c.assemble.result (subst (λ n. c.evaluate_cells.new.groupings ≡ c.args.groupings.now + n) windows (rw c.deref.ensures.value at c.in_ok-cells.ensures.grouped))
@@ -97,7 +98,7 @@ pub returns-clause-ticks : goal.returns-clause-ticks
 returns-clause-ticks g c =
     let F = beside c.args.frame.now c.args.state.now in
     let ts = map tree c.args.exprs.now in
-    let scope : c.in_ok-schema.schema.value ≡ scope_of F = cc (c.in_ok-schema.ensures) in
+    let scope : c.in_ok-schema.schema.value ≡ scope_of F = ok_same _ _ c.in_ok-schema.ensures in
     let nodes = nodes_over c.in_ok-schema.schema.value F ts c.in_ok-nodes.nodes.items scope c.in_ok-nodes.ensures.1 in
     let least : RunAllAtLeast (map (planned_over (scope_of F)) ts) c.args.kernels.now c.evaluate_cells.new.kernels
     = subst (λ (ps : List Planned). RunAllAtLeast ps c.args.kernels.now c.evaluate_cells.new.kernels) nodes (rw c.deref.ensures.value at c.in_ok-cells.ensures.least) in
@@ -107,7 +108,7 @@ pub returns-clause-most : goal.returns-clause-most
 returns-clause-most g c =
     let F = beside c.args.frame.now c.args.state.now in
     let ts = map tree c.args.exprs.now in
-    let scope : c.in_ok-schema.schema.value ≡ scope_of F = cc (c.in_ok-schema.ensures) in
+    let scope : c.in_ok-schema.schema.value ≡ scope_of F = ok_same _ _ c.in_ok-schema.ensures in
     let nodes = nodes_over c.in_ok-schema.schema.value F ts c.in_ok-nodes.nodes.items scope c.in_ok-nodes.ensures.1 in
     let same = same_trees (scope_of F) ts c.in_ok-nodes.nodes.items (sym nodes) in
     let most : RisesAtMost (costs_on (map node_tree c.in_ok-nodes.nodes.items) F) c.args.kernels.now c.evaluate_cells.new.kernels = rw c.deref.ensures.value at c.in_ok-cells.ensures.most in
