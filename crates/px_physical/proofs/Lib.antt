@@ -1,3 +1,4 @@
+pub mod Below
 pub mod CellsInOrder
 pub mod Inlined
 pub mod LiveNames
