@@ -1,10 +1,15 @@
-"""Runs `rt ci` in a repository, sees twice a second what processor time each of its processes has taken, and prints whose it was."""
+"""Runs `rt ci` in a repository, sees twice a second what processor time each of its processes has taken, and prints whose it was.
+
+gate.py FOLDER BEFORE ; BEFORE is a folder with the earlier revision, two crates of which are proved beside it.
+"""
 import collections
 import os
 import re
 import subprocess
 import sys
 import time
+
+from before import Before
 
 TICK = os.sysconf("SC_CLK_TCK")
 
@@ -66,8 +71,10 @@ def chains(folder, proof):
     return max(longest.values()), list(longest)
 
 
-def main(folder):
+def main(folder, earlier):
     begin = time.time()
+    before = Before(earlier)
+    before.start()
     gate = subprocess.Popen(["rt", "ci"], cwd=folder, stdout=sys.stderr)
     seen = {}
     try:
@@ -78,7 +85,9 @@ def main(folder):
         print("The gate was interrupted: what it took until then.\n")
         gate.terminate()
         gate.wait()
+    before.stop()
     used = os.times()
+    minutes = (used.children_user + used.children_system - before.spent) / 60
     spent = collections.defaultdict(float)
     for work, seconds in seen.values():
         spent[work] += seconds
@@ -88,10 +97,11 @@ def main(folder):
     for name in names:
         print(f"| {name} | " + " | ".join(f"{spent[name, kind]:.0f}" for kind in ("proof", "tests", "edits")) + " |")
     print(
-        f"\nAll: {(used.children_user + used.children_system) / 60:.0f} processor minutes in {(time.time() - begin) / 60:.0f} minutes. "
+        f"\nAll: {minutes:.0f} processor minutes in {(time.time() - begin) / 60:.0f} minutes. "
         f"Longest chain of proofs: {longest / 60:.1f} processor minutes, {', '.join(path)}."
     )
+    before.say(minutes, longest / 60)
     return gate.returncode
 
 
-sys.exit(main(sys.argv[1]))
+sys.exit(main(*sys.argv[1:]))
