@@ -1,6 +1,8 @@
 """Proves two crates of an earlier revision over and over, beside the gate: by what they take, machines are compared."""
+import contextlib
 import os
 import re
+import signal
 import subprocess
 import sys
 import threading
@@ -65,8 +67,11 @@ class Before(threading.Thread):
     def stop(self):
         """Ends the proofs; what they have taken is then known."""
         self.is_stopped = True
-        self.process.kill()
-        self.join()
+        while self.is_alive():
+            if self.process:
+                with contextlib.suppress(ProcessLookupError):
+                    os.kill(self.process.pid, signal.SIGKILL)
+            self.join(0.2)
 
     def say(self, minutes, chain_minutes):
         """Prints the gate's minutes as a share of that revision's, by the measure of the two crates."""

@@ -1,7 +1,6 @@
 #!/usr/bin/env bash
 # Runs the gate from nothing in a clone of the committed state, and prints a Markdown table of the processor seconds of each crate's proof, tests and edits, their sum, and the longest chain of proofs.
 # Beside it, two crates of an earlier revision are proved over and over: by them the sum is told as a share of that revision's gate.
-# Where the kit keeps what it has proved, set that aside first, or the crates that it knows take nothing.
 # bench/gate.sh : what the gate prints goes to standard error. It is no part of the gate.
 set -eu
 export LC_ALL=C
