@@ -2,6 +2,7 @@ pub mod Views
 pub mod Forms
 pub mod StepForms
 pub mod Readings
+pub mod Parts
 pub mod Operators
 pub mod Fitting
 pub mod Tokens

@@ -42,6 +42,16 @@ each_step seen f (w ∷ vs) (suc i) v front y l e h =
     let next : suc i + 1 ≡ suc (i + 1) = omega arith in
     rw next (each_step seen f vs i v front y (omega (arith, l)) e h)
 
+-- where nothing is made of the item at i, nothing is made of all
+pub each_missed : {V A B : Type 0} (seen : V → A) (f : A → Option B) (vs : List V) (i : ℕ) (v : V) (front : List B) → i < length vs → v ≡ get_or vs i v → f (seen v) ≡ None → with_front front (each f (map seen (drop i vs))) ≡ None
+each_missed seen f [] i v front l e h = absurd (omega (arith, l))
+each_missed seen f (w ∷ vs) zero v front l e h = let missed : f (seen w) ≡ None = rw e at h in rw missed refl
+each_missed seen f (w ∷ vs) (suc i) v front l e h = each_missed seen f vs i v front (omega (arith, l)) e h
+
+-- where no item is left
+pub each_end : {V A B : Type 0} (seen : V → A) (f : A → Option B) (vs : List V) (i : ℕ) (front : List B) → length vs ≤ i → with_front front (each f (map seen (drop i vs))) ≡ Some front
+each_end seen f vs i front l = ap (λ r. with_front front (each f (map seen r))) (drop_all i vs l) ∙ ap Some (append-nil front)
+
 -- the byte of two digits at i, before what is made of the digits after them
 pub hex_step : (front s : List ℕ) (i : ℕ) (x : ℕ) → 2 ≤ length s - i → hex_byte (get_or s i 0) (get_or s (i + 1) 0) ≡ Some x → with_front (front ++ x ∷ []) (bytes_of_hex (drop (i + 2) s)) ≡ with_front front (bytes_of_hex (drop i s))
 hex_step front [] i x l h = absurd (omega (arith, l))
