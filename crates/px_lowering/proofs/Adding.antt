@@ -96,6 +96,9 @@ added_thrice old mid mid2 new xs ys zs d e f = added_twice old mid new xs (ys ++
 pub last_below : {E : Type 0} (n : Node) (m : ℕ) → ◌≡◌ {A = Result ℕ E} (Ok m) (Ok (n.0 + 1)) → n.0 < m
 last_below n m h = let e : m ≡ n.0 + 1 = cc in omega arith
 
+pub is_last_below : {E : Type 0} (n : Node) (m : ℕ) → ◌≡◌ {A = Result ℕ E} (Ok m) (Ok (n.0 + 1)) → is_below m n ≡ true
+is_last_below n m h = let lt = last_below n m h in grind (arith, nat_tests)
+
 pub kept : {E : Type 0} (mid new us : List Tree) (n : Node) (t : Tree) → new ≡ mid ++ us → ◌≡◌ {A = Result ℕ E} (Ok (length mid)) (Ok (n.0 + 1)) → tree_at mid n ≡ t → tree_at new n ≡ t
 kept mid new us n t e l h = rw e (tree_at-append mid us n (last_below n (length mid) l) ∙ h)
 
@@ -103,11 +106,14 @@ pub kept_all : {E : Type 0} (mid new us : List Tree) (es : List Node) (ts : Tree
 kept_all mid new us es ts e b h = let same : ts ≡ trees_at mid es = cc in rw e (trees_at-append mid us es b ∙ sym same)
 
 -- places before one are before a later one
+pub later_below : (e : Node) (m n : ℕ) → m ≤ n → is_below m e ≡ true → is_below n e ≡ true
+later_below e m n h b = grind (arith, nat_tests)
+
 pub all_below_later : (m n : ℕ) (es : List Node) → m ≤ n → all_below m es ≡ true → all_below n es ≡ true
 all_below_later m n [] h b = refl
 all_below_later m n (e ∷ es) h b =
     let here : is_below m e ≡ true = and_left (is_below m e) (all_below m es) b in
-    let l : is_below n e ≡ true = grind (arith, nat_tests) in
+    let l = later_below e m n h here in
     let r = all_below_later m n es h (and_right (is_below m e) (all_below m es) b) in
     rw (l, r)
 
@@ -118,18 +124,30 @@ all_below_push n (x ∷ es) e b h =
     let r = all_below_push n es e (and_right (is_below n x) (all_below n es) b) h in
     rw (l, r)
 
--- the tree of a node with a list of children, and with an order besides, from theirs
-pub made_with_list : (make : Tree → Trees → Tree) (t x p : Tree) (ys qs : Trees) → t ≡ make x ys → p ≡ x → qs ≡ ys → t ≡ make p qs
-made_with_list make t x p ys qs e d f = rw (d, f) e
+-- a tree that is made of parts, of parts that are the same
+pub made_one : {A : Type 0} (make : A → Tree) {t : Tree} {x p : A} → t ≡ make x → p ≡ x → t ≡ make p
+made_one make e d = rw d e
 
-pub made_with_order : (make : Tree → Trees → Order → Tree) (t x p : Tree) (ys qs : Trees) (o r : Order) → t ≡ make x ys o → p ≡ x → qs ≡ ys → r ≡ o → t ≡ make p qs r
-made_with_order make t x p ys qs o r e d f g = rw (d, f, g) e
+pub made_two : {A B : Type 0} (make : A → B → Tree) {t : Tree} {x p : A} {y q : B} → t ≡ make x y → p ≡ x → q ≡ y → t ≡ make p q
+made_two make e d f = rw (d, f) e
+
+pub made_three : {A B C : Type 0} (make : A → B → C → Tree) {t : Tree} {x p : A} {y q : B} {z r : C} → t ≡ make x y z → p ≡ x → q ≡ y → r ≡ z → t ≡ make p q r
+made_three make e d f g = rw (d, f, g) e
+
+-- what is added of a tree that is known, and how long the list is then
+pub added_seen : (old new : List Tree) {t s : Tree} → t ≡ s → new ≡ old ++ children_postorder s → new ≡ old ++ children_postorder t
+added_seen old new e a = rw e a
+
+pub added_count : (old new : List Tree) (t : Tree) → new ≡ old ++ children_postorder t → length new + 1 ≡ length old + nodes_of t
+added_count old new t a =
+    let whole : length (children_postorder t ++ t ∷ []) ≡ nodes_of t = ap length (sym (postorder-children t)) ∙ postorder-length t in
+    rw a (omega (arith, whole, length-append old (children_postorder t), length-append (children_postorder t) (t ∷ [])))
 
 pub longer : (mid new us : List Tree) → new ≡ mid ++ us → length mid ≤ length new
 longer mid new us e = rw e (omega (arith, length-append mid us))
 
-pub window_below : (n : ℕ) (f : Node) (a b : Bool) → f.0 < n → a ≡ true → b ≡ true → (is_below n f && (a && b)) ≡ true
-window_below n f a b h p q = let l : is_below n f ≡ true = grind (arith, nat_tests) in rw (l, p, q) refl
+pub both_true : {a b : Bool} → a ≡ true → b ≡ true → (a && b) ≡ true
+both_true p q = rw (p, q) refl
 
 -- a list of trees, as far as a loop has come
 pub all_postorder-append : (ss ts : List Tree) → all_postorder (trees_of (ss ++ ts)) ≡ all_postorder (trees_of ss) ++ all_postorder (trees_of ts)

@@ -1,17 +1,48 @@
--- The trees of expressions with several children.
-use Rattle.std.proofs.Common.{◌≡◌, Bool, Option, Some, None, sym, ap, ◌∙◌}
+-- The trees of expressions, by the expressions inside.
+use Rattle.std.proofs.Common.{◌≡◌, Bool, Option, Some, None, Result, Ok, sym, ap, ◌∙◌}
 use Rattle.std.specs.declared.alloc.Global.{Global}
 use Rattle.std.specs.declared.rc.Rc.{Rc}
+use Rattle.px_column.specs.Prelude.{kind_of}
+use Rattle.px_value.specs.declared.data_type.DataType.{DataType}
+use Rattle.px_value.specs.declared.name.Name.{Name}
+use Rattle.px_value.specs.declared.cast_options.CastOptions.{CastOptions}
 use Rattle.px_value.specs.declared.operator.Operator.{Operator}
 use Rattle.px_value.specs.declared.sort_options.SortMultipleOptions.{SortMultipleOptions}
 use Rattle.px_value.specs.declared.sort_options.SortOptions.{SortOptions}
-use Rattle.px_tree.specs.Tree.{Tree, Trees, binary, ternary, filter, slice, gather, sort_by, window}
-use Rattle.px_tree.specs.View.{tree, trees, order_tree, agg_step, tree_step, trees_step, mapping_of}
+use Rattle.px_tree.specs.Tree.{Tree, Trees, by_name, as_explode, no_trees, one_tree, column, literal, alias, binary, ternary, cast, function, filter, slice, gather, sort, sort_by, window}
+use Rattle.px_tree.specs.View.{tree, trees, order_tree, agg_tree, literal_of, agg_step, tree_step, trees_step, mapping_of}
 use Rattle.px_tree.specs.declared.expr.AggExpr.TheOpen.{Expr-F}
+use Rattle.px_tree.specs.declared.expr.AggExpr.{AggExpr}
 use Rattle.px_tree.specs.declared.expr.Expr.{Expr, fold-roll-Expr}
-use Rattle.px_tree.specs.declared.expr.Expr.TheVariants.{BinaryExpr, Ternary, Filter, Slice, Gather, SortBy, Window, rolls-BinaryExpr, rolls-Ternary, rolls-Filter, rolls-Slice, rolls-Gather, rolls-SortBy, rolls-Window}
+use Rattle.px_tree.specs.declared.expr.Expr.TheVariants.{Column, Literal, Alias, BinaryExpr, Ternary, Cast, Function, Explode, Filter, Slice, Gather, Sort, SortBy, Agg, Window, rolls-Column, rolls-Literal, rolls-Alias, rolls-BinaryExpr, rolls-Ternary, rolls-Cast, rolls-Function, rolls-Explode, rolls-Filter, rolls-Slice, rolls-Gather, rolls-Sort, rolls-SortBy, rolls-Agg, rolls-Window}
 use Rattle.px_tree.specs.declared.expr.Exprs.{Exprs}
+use Rattle.px_tree.specs.declared.function.FunctionExpr.{FunctionExpr}
+use Rattle.px_tree.specs.declared.literal.LiteralValue.{LiteralValue}
 use Rattle.px_tree.specs.declared.window.WindowType.{WindowType}
+
+pub tree-Column : (n : Name) → tree (Column n) ≡ column n
+tree-Column n = ap tree (sym (rolls-Column n)) ∙ fold-roll-Expr Tree Tree Trees agg_step tree_step trees_step (Expr-F.Column n)
+
+pub tree-Literal : (v : LiteralValue) → tree (Literal v) ≡ literal (literal_of v)
+tree-Literal v = ap tree (sym (rolls-Literal v)) ∙ fold-roll-Expr Tree Tree Trees agg_step tree_step trees_step (Expr-F.Literal v)
+
+pub tree-Alias : (x : Rc Expr Global) (n : Name) → tree (Alias x n) ≡ alias (tree x.value) n
+tree-Alias x n = ap tree (sym (rolls-Alias x n)) ∙ fold-roll-Expr Tree Tree Trees agg_step tree_step trees_step (Expr-F.Alias x n)
+
+pub tree-Cast : (x : Rc Expr Global) (dtype : DataType) (options : CastOptions) → tree (Cast x dtype options) ≡ cast (tree x.value) (kind_of dtype) options
+tree-Cast x dtype options = ap tree (sym (rolls-Cast x dtype options)) ∙ fold-roll-Expr Tree Tree Trees agg_step tree_step trees_step (Expr-F.Cast x dtype options)
+
+pub tree-Function : (es : Exprs) (f : FunctionExpr) → tree (Function es f) ≡ function (trees es) (by_name f)
+tree-Function es f = ap tree (sym (rolls-Function es f)) ∙ fold-roll-Expr Tree Tree Trees agg_step tree_step trees_step (Expr-F.Function es f)
+
+pub tree-Explode : (x : Rc Expr Global) → tree (Explode x) ≡ function (one_tree (tree x.value) no_trees) as_explode
+tree-Explode x = ap tree (sym (rolls-Explode x)) ∙ fold-roll-Expr Tree Tree Trees agg_step tree_step trees_step (Expr-F.Explode x)
+
+pub tree-Sort : (x : Rc Expr Global) (options : SortOptions) → tree (Sort x options) ≡ sort (tree x.value) options
+tree-Sort x options = ap tree (sym (rolls-Sort x options)) ∙ fold-roll-Expr Tree Tree Trees agg_step tree_step trees_step (Expr-F.Sort x options)
+
+pub tree-Agg : (a : AggExpr) → tree (Agg a) ≡ agg_tree a
+tree-Agg a = ap tree (sym (rolls-Agg a)) ∙ fold-roll-Expr Tree Tree Trees agg_step tree_step trees_step (Expr-F.Agg a)
 
 pub tree-BinaryExpr : (x : Rc Expr Global) (op : Operator) (y : Rc Expr Global) → tree (BinaryExpr x op y) ≡ binary (tree x.value) op (tree y.value)
 tree-BinaryExpr x op y = ap tree (sym (rolls-BinaryExpr x op y)) ∙ fold-roll-Expr Tree Tree Trees agg_step tree_step trees_step (Expr-F.BinaryExpr x op y)
@@ -34,3 +65,13 @@ tree-SortBy x by options = ap tree (sym (rolls-SortBy x by options)) ∙ fold-ro
 pub tree-Window : (f : Rc Expr Global) (keys : Exprs) (order : Option (Rc Expr Global × SortOptions)) (options : WindowType) → tree (Window f keys order options) ≡ window (tree f.value) (trees keys) (order_tree order) (mapping_of options)
 tree-Window f keys None options = ap tree (sym (rolls-Window f keys None options)) ∙ fold-roll-Expr Tree Tree Trees agg_step tree_step trees_step (Expr-F.Window f keys None options)
 tree-Window f keys (Some o) options = ap tree (sym (rolls-Window f keys (Some o) options)) ∙ fold-roll-Expr Tree Tree Trees agg_step tree_step trees_step (Expr-F.Window f keys (Some o) options)
+
+-- a tree that is made of parts as another one is, where these are alike
+pub one_alike : {A E : Type 0} (make : A → Tree) {t s : Tree} {a p : A} → t ≡ make a → s ≡ make p → ◌≡◌ {A = Result A E} (Ok a) (Ok p) → ◌≡◌ {A = Result Tree E} (Ok t) (Ok s)
+one_alike make e d h = cc (e, d, h)
+
+pub two_alike : {A B E : Type 0} (make : A → B → Tree) {t s : Tree} {a p : A} {b q : B} → t ≡ make a b → s ≡ make p q → ◌≡◌ {A = Result A E} (Ok a) (Ok p) → ◌≡◌ {A = Result B E} (Ok b) (Ok q) → ◌≡◌ {A = Result Tree E} (Ok t) (Ok s)
+two_alike make e d h k = cc (e, d, h, k)
+
+pub three_alike : {A B C E : Type 0} (make : A → B → C → Tree) {t s : Tree} {a p : A} {b q : B} {c r : C} → t ≡ make a b c → s ≡ make p q r → ◌≡◌ {A = Result A E} (Ok a) (Ok p) → ◌≡◌ {A = Result B E} (Ok b) (Ok q) → ◌≡◌ {A = Result C E} (Ok c) (Ok r) → ◌≡◌ {A = Result Tree E} (Ok t) (Ok s)
+three_alike make e d h k l = cc (e, d, h, k, l)
