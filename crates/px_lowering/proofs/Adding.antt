@@ -1,14 +1,19 @@
 -- What stands in an arena after some nodes were added.
-use Rattle.std.proofs.Common.{◌≡◌, ℕ, zero, suc, ◌+◌, ◌<◌, ◌≤◌, Bool, true, ◌&&◌, nat_lt, List, [], ◌∷◌, ◌++◌, length, map, take, drop, get_or, Result, Ok, Err, OnErr, refl, sym, ap, ◌∙◌, arith, length-append, append_assoc, append-nil, add-one, drop-cons}
+use Rattle.std.proofs.Common.{◌≡◌, ℕ, zero, suc, ◌+◌, ◌<◌, ◌≤◌, Bool, true, ◌&&◌, nat_lt, List, [], ◌∷◌, ◌++◌, length, map, take, drop, get_or, Result, Ok, Err, OnOk, OnErr, IfOk, refl, sym, ap, ◌∙◌, arith, length-append, append_assoc, append-nil, add-one, drop-cons}
 use Rattle.std.proofs.lemmas.List.{take_more, map-append, take-append-drop}
 use Rattle.std.proofs.lemmas.Bool.Decides.{nat_tests}
 use Rattle.px_arena.proofs.Trees.{and_left, and_right, places_same, trees_same, Agree-append}
+use Rattle.std.specs.Result.{IsErrAnd}
+use Rattle.px_value.proofs.Refusing.{only_memory}
+use Rattle.px_value.specs.Answer.{AnswersBy, Refuses}
+use Rattle.px_value.specs.declared.error.PxError.{PxError}
 use Rattle.px_lowering.specs.Adding.{AddsFront}
-use Rattle.px_arena.specs.Arena.{tree_at, trees_at, is_below, all_below}
+use Rattle.px_arena.specs.Arena.{tree_at, trees_at, node_tree, is_below, all_below, children_below}
 use Rattle.px_tree.specs.Nodes.{nodes_of, all_nodes_of, order_nodes_of, postorder, all_postorder, order_postorder, children_postorder}
 use Rattle.px_tree.specs.Tree.{Tree, Trees, Order, trees_of, no_trees, one_tree, no_order, ordered, column, literal, alias, binary, ternary, cast, function, filter, slice, gather, sort, sort_by, agg, len, window}
 use Rattle.px_tree.specs.View.{tree}
 use Rattle.px_tree.specs.declared.expr.Expr.{Expr}
+use Rattle.px_arena.specs.declared.node.AExpr.{AExpr}
 use Rattle.px_arena.specs.declared.node.Node.{Node}
 
 mutual
@@ -77,6 +82,15 @@ pub ruleset adding_rules = (length-append, postorder-length, all_postorder-lengt
 pub OnErr-of : {X E : Type 0} (r : Result X E) (P : Type 0) → P → OnErr r P
 OnErr-of (Ok x) P p = tt
 OnErr-of (Err e) P p = p
+
+-- what was added of a tree that is known
+pub front_seen : (old new : List Tree) {t s : Tree} → t ≡ s → AddsFront old (children_postorder s) new → AddsFront old (children_postorder t) new
+front_seen old new e a = rw e a
+
+-- the children of a tree where memory is wanting
+pub children_refused : {Z : Type 0} (r : Result AExpr PxError) (e : PxError) (z : Z) (old new : List Tree) (t : Tree) → IsErrAnd r (λ f. f ≡ e) → Refuses e (Ok z) → AddsFront old (children_postorder t) new → record { added : OnOk r (new ≡ old ++ children_postorder t); part : OnErr r (AddsFront old (children_postorder t) new); count : OnOk r (length new + 1 ≡ length old + nodes_of t); tree : AnswersBy (node_tree new) r (Ok t); below : IfOk r (λ item. children_below (length new) item ≡ true) }
+children_refused (Ok x) e z old new t h m p = absurd h
+children_refused (Err f) e z old new t h m p = record { added = tt; part = p; count = tt; tree = rw h (only_memory e z (Ok t) m); below = tt }
 
 -- how long the list is after an addition
 pub added-length : (old new : List Tree) (t : Tree) → new ≡ old ++ postorder t → length new ≡ length old + nodes_of t
