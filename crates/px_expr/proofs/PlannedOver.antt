@@ -6,14 +6,8 @@ use Rattle.px_value.specs.declared.error.PxError.{PxError}
 use Rattle.px_value.specs.declared.sort_options.SortMultipleOptions.{SortMultipleOptions}
 use Rattle.px_value.specs.declared.sort_options.SortOptions.{SortOptions}
 use Rattle.px_tree.specs.Nodes.{leaf_names, all_leaf_names, order_leaf_names}
-use Rattle.px_tree.specs.Tree.{Tree, Trees, Order, Call, no_trees, one_tree, no_order, ordered, function, by_name, sort_by, window}
+use Rattle.px_tree.specs.Tree.{Tree, Trees, Order, Call, no_trees, one_tree, no_order, ordered, sort_by, window}
 use Rattle.px_tree.specs.Typing.{Scope}
-use Rattle.px_tree.specs.View.{tree, trees, agg_step, tree_step, trees_step}
-use Rattle.px_tree.specs.declared.expr.AggExpr.TheOpen.{Expr-F}
-use Rattle.px_tree.specs.declared.expr.Expr.{fold-roll-Expr}
-use Rattle.px_tree.specs.declared.expr.Expr.TheVariants.{Function, rolls-Function}
-use Rattle.px_tree.specs.declared.expr.Exprs.{Exprs}
-use Rattle.px_tree.specs.declared.function.FunctionExpr.{FunctionExpr}
 use Rattle.px_tree.specs.declared.window.WindowMapping.{WindowMapping}
 use Rattle.px_answers.specs.Parts.{call_in, call_on, order_columns, plan_columns, plan_order, plan_trees}
 use Rattle.px_expr.specs.Plan.{planned_over, all_planned_over, order_planned_over}
@@ -30,10 +24,6 @@ columns_over scope names = map (planned_column scope) names
 -- an expression with these column nodes
 abbrev with_columns : Tree → List PlannedColumn → Planned
 with_columns t cs = record { tree = t; columns = cs }
-
--- the tree of a function of some expressions
-pub tree-Function : (es : Exprs) (f : FunctionExpr) → tree (Function es f) ≡ function (trees es) (by_name f)
-tree-Function es f = ap tree (sym (rolls-Function es f)) ∙ fold-roll-Expr Tree Tree Trees agg_step tree_step trees_step (Expr-F.Function es f)
 
 columns_append : (scope : Scope) (ms ns : List (List ℕ)) → columns_over scope (ms ++ ns) ≡ columns_over scope ms ++ columns_over scope ns
 columns_append scope ms ns = map-append (planned_column scope) ms ns

@@ -1,5 +1,5 @@
 -- What stands in an arena after some nodes were added.
-use Rattle.std.proofs.Common.{◌≡◌, ℕ, zero, suc, ◌+◌, ◌<◌, ◌≤◌, Bool, true, ◌&&◌, nat_lt, List, [], ◌∷◌, ◌++◌, length, map, take, drop, get_or, Result, Ok, Err, OnOk, OnErr, IfOk, refl, sym, ap, ◌∙◌, arith, length-append, append_assoc, append-nil, add-one, drop-cons}
+use Rattle.std.proofs.Common.{◌≡◌, ℕ, ◌+◌, ◌<◌, ◌≤◌, Bool, true, ◌&&◌, List, [], ◌∷◌, ◌++◌, length, map, take, drop, get_or, Result, Ok, Err, OnOk, OnErr, IfOk, refl, sym, ap, ◌∙◌, arith, length-append, append_assoc, append-nil, add-one, drop-cons}
 use Rattle.std.proofs.lemmas.List.{take_more, map-append, take-append-drop}
 use Rattle.std.proofs.lemmas.Bool.Decides.{nat_tests}
 use Rattle.px_arena.proofs.Trees.{and_left, and_right, places_same, trees_same, Agree-append}
@@ -99,12 +99,9 @@ added-length old new t e = rw e (omega (arith, length-append old (postorder t), 
 pub all_added-length : (old new : List Tree) (ts : Trees) → new ≡ old ++ all_postorder ts → length new ≡ length old + all_nodes_of ts
 all_added-length old new ts e = rw e (omega (arith, length-append old (all_postorder ts), all_postorder-length ts))
 
--- two and three additions
+-- two additions
 pub added_twice : (old mid new xs ys : List Tree) → mid ≡ old ++ xs → new ≡ mid ++ ys → new ≡ old ++ (xs ++ ys)
 added_twice old mid new xs ys d e = rw (e, d, append_assoc) refl
-
-pub added_thrice : (old mid mid2 new xs ys zs : List Tree) → mid ≡ old ++ xs → mid2 ≡ mid ++ ys → new ≡ mid2 ++ zs → new ≡ old ++ (xs ++ (ys ++ zs))
-added_thrice old mid mid2 new xs ys zs d e f = added_twice old mid new xs (ys ++ zs) d (added_twice mid mid2 new ys zs e f)
 
 -- what stood there stands there still
 pub last_below : {E : Type 0} (n : Node) (m : ℕ) → ◌≡◌ {A = Result ℕ E} (Ok m) (Ok (n.0 + 1)) → n.0 < m

@@ -1,3 +1,3 @@
 pub mod Views
 pub mod Adding
-pub mod Shapes
+pub mod Alike

@@ -1,2 +1,3 @@
 pub mod KindLaws
 pub mod Scopes
+pub mod Shapes

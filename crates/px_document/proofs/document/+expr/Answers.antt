@@ -3,11 +3,8 @@ use Rattle.std.proofs.lemmas.Grind.{common_steps}
 use Rattle.serde_json.specs.View.{view}
 use Rattle.px_column.specs.Prelude.{kind_of}
 use Rattle.px_tree.specs.Tree.{cast, trees_of}
-use Rattle.px_tree.specs.View.{tree, trees, agg_step, tree_step, trees_step}
-use Rattle.px_tree.specs.Tree.{Tree, Trees}
-use Rattle.px_tree.specs.declared.expr.Expr.{fold-roll-Expr}
-use Rattle.px_tree.specs.declared.expr.Expr.TheVariants.{Cast, rolls-Cast}
-use Rattle.px_tree.specs.declared.expr.AggExpr.TheOpen.{Expr-F}
+use Rattle.px_tree.specs.View.{tree, trees}
+use Rattle.px_tree.proofs.Shapes.{tree-Cast, tree-Window}
 use Rattle.px_tree.specs.declared.window.WindowType.TheVariants.{Over}
 use Rattle.px_document.specs.ExprForm.{expr_form, expr_within, row_form, whole_form}
 use Rattle.px_document.specs.Form.{items}
@@ -16,7 +13,7 @@ use Rattle.px_column.specs.Option.{each}
 use Rattle.px_document.proofs.Readings.{each_end, each_missed, each_step, refused, with_front_none}
 use Rattle.px_document.proofs.Forms.{keyed, left, other_key, past_leaves, past_rows, cast_missed, cast_taken, under_col, under_lit, under_range, under_series, under_alias, under_bin, under_when, under_cast, under_fn, under_explode, under_filter, under_slice, under_gather, under_sort, under_sort_by, under_agg, under_len, under_over}
 use Rattle.px_tree.specs.declared.expr.AggExpr.TheFolds.{the_lemmas}
-use Rattle.px_document.proofs.Parts.{passed, wanting, two_parts, three_parts, window_tree}
+use Rattle.px_document.proofs.Parts.{passed, wanting, two_parts, three_parts}
 use Rattle.px_document.proofs.document.+expr.Goals as goal
 
 pub expr::read_form-returns-in-col : goal.expr::read_form-returns-in-col
@@ -110,8 +107,7 @@ expr::read_whole_form-returns-in_default t c =
 pub row_wise::read_cast_parts-returns : goal.row_wise::read_cast_parts-returns
 row_wise::read_cast_parts-returns t c =
     let x = c.in_ok-expr.expr in let k = c.in_ok-dtype.dtype in let s = c.in_ok-options.options in
-    let is : tree (Cast x k s) ≡ cast (tree x.value) (kind_of k) s = ap tree (sym (rolls-Cast x k s)) ∙ fold-roll-Expr Tree Tree Trees agg_step tree_step trees_step (Expr-F.Cast x k s) in
-    cast_taken (expr_within c.args.levels) (view c.args.input.now) (view c.args.dtype.now) (view c.args.options.now) (tree x.value) (kind_of k) s c.in_ok-expr.ensures c.in_ok-dtype.ensures c.in_ok-options.ensures ∙ ap Some (sym is)
+    cast_taken (expr_within c.args.levels) (view c.args.input.now) (view c.args.dtype.now) (view c.args.options.now) (tree x.value) (kind_of k) s c.in_ok-expr.ensures c.in_ok-dtype.ensures c.in_ok-options.ensures ∙ ap Some (sym (tree-Cast x k s))
 
 pub row_wise::read_cast-returns-in_default : goal.row_wise::read_cast-returns-in_default
 row_wise::read_cast-returns-in_default t c =
@@ -353,7 +349,7 @@ pub window::read_window-returns : goal.window::read_window-returns
 window::read_window-returns t c =
     let parts = sym (rw c.in_ok-function.ensures.ok_part at c.four_fields-parts.ensures) in
     let keys : trees_of (map tree c.in_ok-read_list.field-0.items) ≡ trees c.in_ok-partition_by.partition_by = cc (c.in_ok-partition_by.ensures) in
-    rw (parts, c.in_ok-function-2.ensures, c.in_ok-read_list.ensures, c.in_ok-order_by.ensures, c.in_ok-read_mapping.ensures, keys) (ap Some (sym (window_tree c.in_ok-function-2.function c.in_ok-partition_by.partition_by c.in_ok-order_by.order_by (Over c.in_ok-read_mapping.field-0))))
+    rw (parts, c.in_ok-function-2.ensures, c.in_ok-read_list.ensures, c.in_ok-order_by.ensures, c.in_ok-read_mapping.ensures, keys) (ap Some (sym (tree-Window c.in_ok-function-2.function c.in_ok-partition_by.partition_by c.in_ok-order_by.order_by (Over c.in_ok-read_mapping.field-0))))
 
 pub row_wise::read_cast_parts-returns-in_err-options : goal.row_wise::read_cast_parts-returns-in_err-options
 row_wise::read_cast_parts-returns-in_err-options t c =

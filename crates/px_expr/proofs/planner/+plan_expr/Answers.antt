@@ -1,11 +1,11 @@
 use Rattle.std.proofs.Common.{◌≡◌, ◌++◌, map, ap, rules, sym, ◌∙◌}
-use Rattle.px_lowering.proofs.Shapes.{tree-BinaryExpr, tree-Ternary, tree-Filter, tree-Slice, tree-Gather, tree-SortBy, tree-Window}
+use Rattle.px_tree.proofs.Shapes.{tree-BinaryExpr, tree-Ternary, tree-Function, tree-Filter, tree-Slice, tree-Gather, tree-SortBy, tree-Window}
 use Rattle.px_tree.specs.Nodes.{leaf_names, all_leaf_names, order_leaf_names}
 use Rattle.px_tree.specs.Tree.{by_name, sort_by, window}
 use Rattle.px_tree.specs.View.{order_tree, tree, trees}
 use Rattle.px_physical.specs.NodeView.{order_of, plan_of}
 use Rattle.px_expr.specs.Plan.{function_of}
-use Rattle.px_expr.proofs.PlannedOver.{tree-Function, two_over, three_over, list_over, one_and_list_over, call_over, sort_by_over, window_over, window_tree_over}
+use Rattle.px_expr.proofs.PlannedOver.{two_over, three_over, list_over, one_and_list_over, call_over, sort_by_over, window_over, window_tree_over}
 use Rattle.px_expr.proofs.planner.+plan_expr.Goals as goal
 
 pub plan_expr-plan_apply-requires-clause-tree : goal.plan_expr-plan_apply-requires-clause-tree

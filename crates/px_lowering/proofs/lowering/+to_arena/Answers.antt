@@ -2,11 +2,11 @@ use Rattle.std.proofs.Common.{◌≡◌, ◌<◌, ◌++◌, length, map, [], app
 use Rattle.std.proofs.lemmas.Grind.{common_steps}
 use Rattle.px_column.specs.Prelude.{kind_of}
 use Rattle.px_value.specs.declared.error.PxError.{PxError}
-use Rattle.px_lowering.proofs.Adding.{OnErr-of, AddsFront-more, AddsFront-after, added_twice, added_thrice, kept, kept_all, kept_last, last_below, longer, made_one, made_two, made_three, added_seen, added_count, front_seen, children_refused, is_last_below, later_below, both_true, all_below_later, all_below_push, postorder-children, seen_postorder, seen_rest, seen_part, more_part, placed}
-use Rattle.px_lowering.proofs.Shapes.{tree-Column, tree-Literal, tree-Alias, tree-BinaryExpr, tree-Ternary, tree-Cast, tree-Function, tree-Explode, tree-Filter, tree-Slice, tree-Gather, tree-Sort, tree-SortBy, tree-Agg, tree-Window}
+use Rattle.px_lowering.proofs.Adding.{OnErr-of, AddsFront-more, AddsFront-after, added_twice, kept, kept_all, kept_last, last_below, longer, made_one, made_two, made_three, added_seen, added_count, front_seen, children_refused, is_last_below, later_below, both_true, all_below_later, all_below_push, postorder-children, seen_postorder, seen_rest, seen_part, more_part, placed}
+use Rattle.px_tree.proofs.Shapes.{tree-Column, tree-Literal, tree-Alias, tree-BinaryExpr, tree-Ternary, tree-Cast, tree-Function, tree-Explode, tree-Filter, tree-Slice, tree-Gather, tree-Sort, tree-SortBy, tree-Agg, tree-Window}
 use Rattle.px_lowering.proofs.Views.{trees_is}
 use Rattle.px_lowering.specs.Adding.{AddsFront}
-use Rattle.px_tree.specs.Nodes.{postorder, all_postorder, order_postorder, children_postorder}
+use Rattle.px_tree.specs.Nodes.{postorder, all_postorder, order_postorder}
 use Rattle.px_tree.specs.Tree.{Tree, Trees, Order, trees_of, by_name, as_explode, no_trees, one_tree, column, literal, alias, binary, ternary, cast, function, filter, slice, gather, sort, sort_by, window}
 use Rattle.px_tree.specs.View.{tree, trees, order_tree, mapping_of}
 use Rattle.px_lowering.proofs.lowering.+to_arena.Goals as goal

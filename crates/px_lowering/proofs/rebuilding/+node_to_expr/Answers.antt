@@ -4,7 +4,8 @@ use Rattle.px_arena.proofs.Trees.{and_left, and_right}
 use Rattle.px_arena.specs.Arena.{node_tree, is_below, all_below}
 use Rattle.px_tree.specs.Tree.{by_name, as_explode, no_trees, one_tree, column, literal, alias, binary, ternary, cast, function, filter, slice, gather, sort, sort_by, window}
 use Rattle.px_tree.specs.View.{mapping_of}
-use Rattle.px_lowering.proofs.Shapes.{tree-Column, tree-Literal, tree-Alias, tree-BinaryExpr, tree-Ternary, tree-Cast, tree-Function, tree-Explode, tree-Filter, tree-Slice, tree-Gather, tree-Sort, tree-SortBy, tree-Agg, tree-Window, one_alike, two_alike, three_alike}
+use Rattle.px_tree.proofs.Shapes.{tree-Column, tree-Literal, tree-Alias, tree-BinaryExpr, tree-Ternary, tree-Cast, tree-Function, tree-Explode, tree-Filter, tree-Slice, tree-Gather, tree-Sort, tree-SortBy, tree-Agg, tree-Window}
+use Rattle.px_lowering.proofs.Alike.{one_alike, two_alike, three_alike}
 use Rattle.px_lowering.proofs.Views.{trees_is, all_below_at, below_seen, child_falls, children_fall}
 use Rattle.px_lowering.proofs.rebuilding.+node_to_expr.Goals as goal
 

@@ -1,5 +1,5 @@
 -- The trees of expressions, by the expressions inside.
-use Rattle.std.proofs.Common.{◌≡◌, Bool, Option, Some, None, Result, Ok, sym, ap, ◌∙◌}
+use Rattle.std.proofs.Common.{◌≡◌, Bool, Option, Some, None, sym, ap, ◌∙◌}
 use Rattle.std.specs.declared.alloc.Global.{Global}
 use Rattle.std.specs.declared.rc.Rc.{Rc}
 use Rattle.px_column.specs.Prelude.{kind_of}
@@ -65,13 +65,3 @@ tree-SortBy x by options = ap tree (sym (rolls-SortBy x by options)) ∙ fold-ro
 pub tree-Window : (f : Rc Expr Global) (keys : Exprs) (order : Option (Rc Expr Global × SortOptions)) (options : WindowType) → tree (Window f keys order options) ≡ window (tree f.value) (trees keys) (order_tree order) (mapping_of options)
 tree-Window f keys None options = ap tree (sym (rolls-Window f keys None options)) ∙ fold-roll-Expr Tree Tree Trees agg_step tree_step trees_step (Expr-F.Window f keys None options)
 tree-Window f keys (Some o) options = ap tree (sym (rolls-Window f keys (Some o) options)) ∙ fold-roll-Expr Tree Tree Trees agg_step tree_step trees_step (Expr-F.Window f keys (Some o) options)
-
--- a tree that is made of parts as another one is, where these are alike
-pub one_alike : {A E : Type 0} (make : A → Tree) {t s : Tree} {a p : A} → t ≡ make a → s ≡ make p → ◌≡◌ {A = Result A E} (Ok a) (Ok p) → ◌≡◌ {A = Result Tree E} (Ok t) (Ok s)
-one_alike make e d h = cc (e, d, h)
-
-pub two_alike : {A B E : Type 0} (make : A → B → Tree) {t s : Tree} {a p : A} {b q : B} → t ≡ make a b → s ≡ make p q → ◌≡◌ {A = Result A E} (Ok a) (Ok p) → ◌≡◌ {A = Result B E} (Ok b) (Ok q) → ◌≡◌ {A = Result Tree E} (Ok t) (Ok s)
-two_alike make e d h k = cc (e, d, h, k)
-
-pub three_alike : {A B C E : Type 0} (make : A → B → C → Tree) {t s : Tree} {a p : A} {b q : B} {c r : C} → t ≡ make a b c → s ≡ make p q r → ◌≡◌ {A = Result A E} (Ok a) (Ok p) → ◌≡◌ {A = Result B E} (Ok b) (Ok q) → ◌≡◌ {A = Result C E} (Ok c) (Ok r) → ◌≡◌ {A = Result Tree E} (Ok t) (Ok s)
-three_alike make e d h k l = cc (e, d, h, k, l)
