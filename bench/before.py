@@ -34,14 +34,14 @@ class Before(threading.Thread):
         self.is_stopped = False
 
     def words(self, name):
-        """How the kit's checker is called to prove a crate and write what the crates above it read."""
-        words = [self.kit / "bin/rattle", "build", "--crate-name", name, "src/lib.rt"]
+        """How the gate calls the kit's checker to prove a crate and write what the crates above it read."""
+        words = ["nice", self.kit / "bin/rattle", "build", "--crate-name", name, "src/lib.rt"]
         for dep in ["std", *self.below[name]]:
             rlib = self.crates / dep / f"{dep}.rlib" if dep in self.below else self.kit / f"rlibs/{dep}.rlib"
             words += ["--extern", f"{dep}={rlib}"]
         words += ["-L", f"dependency={self.kit}/rlibs", "--antt-project", self.kit / "rattle/logic/antt-project.json"]
-        words += ["--logic-built", self.kit / "logic_built", "--jobs", "1", "--links", f"{name}="]
-        return [*words, "-o", self.crates / name / f"{name}.rlib"]
+        words += ["--logic-built", self.kit / "logic_built", "--jobs", "2", "--links", f"{name}="]
+        return [*words, "--statements", "-o", self.crates / name / f"{name}.rlib", "--empty-contracts"]
 
     def prove(self, name):
         """The processor seconds of a crate's proof, or None where it was stopped."""
