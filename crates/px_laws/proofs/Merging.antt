@@ -1,7 +1,9 @@
 -- The values of a partition safe expression on parts merge to that on all their rows.
-use Rattle.std.proofs.Common.{◌≡◌, ℕ, ◌+◌, ◌-◌, ◌^◌, ◌<◌, ◌≤◌, suc, Bool, true, false, ◌&&◌, List, [], ◌∷◌, ◌++◌, Option, Some, Ok, option_map, length, map, refl, sym, ◌∙◌, ap, arith}
+use Rattle.std.proofs.Common.{◌≡◌, ℕ, ◌+◌, ◌-◌, ◌^◌, ◌<◌, ◌≤◌, suc, Bool, true, false, cond, ◌&&◌, List, [], ◌∷◌, ◌++◌, Option, Some, Ok, option_map, length, map, refl, sym, ◌∙◌, ap, arith}
 use Rattle.std.specs.List.{flat_map, list_all, list_any}
+use Rattle.std.specs.Prelude.{count_by, is_some}
 use Rattle.std.proofs.lemmas.List.{append-nil, length-append, length-map}
+use Rattle.std.proofs.lemmas.List.Sums.{sum_by-append, count_by-le-length}
 use Rattle.px_column.specs.Prelude.{list, Slot, slots, items, Kind, booleans, int8s, int16s, int32s, int64s, uint8s, uint16s, uint32s, uint64s, strings, binaries, nulls, lists, Series, slot_at}
 use Rattle.px_column.specs.Datum.{items-slots}
 use Rattle.px_column.specs.Option.{◌>>=◌, each}
@@ -335,7 +337,9 @@ method_merges NUnique j k xss w x kind some short = cc
 method_merges (Count true) j k xss w x kind some short =
     let e : uint32s ≡ k = cc in
     count_merges {A = Slot} length xss refl length-append short ∙ ap (λ t. summed t (map (λ (xs : List Slot). count_slot (length xs)) xss)) e
-method_merges (Count false) j k xss w x kind some short = cc
+method_merges (Count false) j k xss w x kind some short =
+    let e : uint32s ≡ k = cc in
+    count_merges {A = Slot} (count_by is_some) xss refl (sum_by-append (λ (s : Slot). cond (is_some s) 1 0)) (omega (arith, count_by-le-length is_some (all_slots xss), short)) ∙ ap (λ t. summed t (map (λ (xs : List Slot). count_slot (count_by is_some xs)) xss)) e
 method_merges Implode j k xss w x kind some short = ap (λ ys. Some (list (slots (Some (list (slots ys)) ∷ [])))) (sym (inner_of_lists j xss))
 
 -- the rows of a frame of some rows: none, or as many as these

@@ -15,7 +15,7 @@ use Rattle.px_tree.specs.declared.context.Context.TheVariants.{Default}
 use Rattle.px_tree.proofs.KindLaws.{kind_there}
 use Rattle.px_laws.proofs.Defined.{scope_of_rows}
 use Rattle.px_typing.proofs.Placing.{refused_more}
-use Rattle.px_steps.specs.Plain.{named_value, value_on_part}
+use Rattle.px_tree.specs.Grouped.{named_value, value_on_part}
 use Rattle.px_step_laws.specs.OnGroups.{IsAlikeOnGroups, IsSelected}
 
 same_length : (xs : List Slot) → (length xs == length xs) ≡ true

@@ -17,7 +17,8 @@ use Rattle.px_laws.proofs.ValueFaults.{fails_by_value, spread_fails, columns_fai
 use Rattle.px_laws.specs.Faults.{is_value_fault}
 use Rattle.px_laws.specs.Fitting.{has_fitting_columns, has_fitting_literals}
 use Rattle.px_step_laws.specs.Faults.{step_trees}
-use Rattle.px_steps.specs.Plain.{named_value, key_on, frame_refusals, agg_refusals, key_refusals, no_key_refusal, repeat_refusal, step_refusals, first_of, first_refusal, refused_by, uneven_fault, height_fault, misfit_faults, group_frames, frames_by, step_faults}
+use Rattle.px_steps.specs.Plain.{frame_refusals, agg_refusals, key_refusals, no_key_refusal, repeat_refusal, step_refusals, first_of, first_refusal, refused_by, uneven_fault, height_fault, misfit_faults, group_frames, frames_by, step_faults}
+use Rattle.px_tree.specs.Grouped.{named_value, key_on}
 use Rattle.px_tree.proofs.KindLaws.{none_left, none_right}
 use Rattle.px_tree.specs.Step.{PlainStep, select, filter, group}
 use Rattle.px_tree.specs.Tree.{Tree}

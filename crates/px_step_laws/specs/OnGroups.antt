@@ -3,7 +3,8 @@ use Rattle.std.specs.Prelude.{◌≡◌, ℕ, List, [], ◌∷◌, option_map}
 use Rattle.px_frame.specs.Cell.{value_of_cell}
 use Rattle.px_frame.specs.External.{Frame, rows_of_frame, scope_of}
 use Rattle.px_frame.specs.Spread.{column_of_cell}
-use Rattle.px_steps.specs.Plain.{agg_refusals, columns_made, frame_refusals, named_value, value_on_part}
+use Rattle.px_steps.specs.Plain.{agg_refusals, columns_made, frame_refusals}
+use Rattle.px_tree.specs.Grouped.{named_value, value_on_part}
 use Rattle.px_tree.specs.Step.{select}
 use Rattle.px_tree.specs.Tree.{Tree}
 use Rattle.px_tree.specs.Typing.{type_of}

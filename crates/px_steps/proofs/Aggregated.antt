@@ -36,7 +36,7 @@ use Rattle.px_answers.specs.Value.{IsOneOf}
 use Rattle.px_group_answers.specs.OnGroups.{AreCellsOn, IsContextOf, IsGroupCause, group_causes, group_frames, group_refusals}
 use Rattle.px_group_answers.proofs.Above.{counts_in_size}
 use Rattle.px_steps.specs.Finds.{Finds, IsAccepted, Lacks, agg_faults, misfit_fault, part_faults, part_frames}
-use Rattle.px_steps.specs.Plain.{aggregated_on, grouped_kind, value_on_part}
+use Rattle.px_tree.specs.Grouped.{aggregated_on, grouped_kind, value_on_part}
 use Rattle.px_steps.proofs.Selected.{cell_sound, swapped}
 use Rattle.px_steps.proofs.Found.{leaves_found, misfits_named}
 

@@ -9,7 +9,7 @@ use Rattle.px_frame.specs.Aggregate.{key_column}
 use Rattle.px_frame.specs.Frame.{names_of, height_of, has_height, all_have_height}
 use Rattle.px_frame.specs.Groups.{Group, group_of, grouped, groups_by, first_row, is_list}
 use Rattle.px_steps.specs.Finds.{is_key}
-use Rattle.px_steps.specs.Plain.{key_values}
+use Rattle.px_tree.specs.Grouped.{key_values}
 use Rattle.px_value.proofs.FitLaws.{both}
 use Rattle.px_frame.proofs.LookLaws.{has_length}
 

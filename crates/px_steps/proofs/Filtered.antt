@@ -20,7 +20,8 @@ use Rattle.px_answers.specs.Value.{IsOneOf}
 use Rattle.px_steps.specs.Causes.{IsStepCause, StepAnswers}
 use Rattle.px_steps.specs.Finds.{Lacks, key_faults, mask_refusals, misfit_fault}
 use Rattle.px_steps.specs.Meets.{IsFirst}
-use Rattle.px_steps.specs.Plain.{columns_made, first_of, first_refusal, height_fault, key_on, misfit_faults, named_value, step_on, with_columns}
+use Rattle.px_steps.specs.Plain.{columns_made, first_of, first_refusal, height_fault, misfit_faults, step_on, with_columns}
+use Rattle.px_tree.specs.Grouped.{key_on, named_value}
 use Rattle.px_tree.proofs.KindLaws.{none_left as nil_left, none_right as nil_right}
 use Rattle.px_steps.proofs.Columns.{and_then_some}
 use Rattle.px_steps.proofs.GroupStep.{spread_made}

@@ -33,7 +33,8 @@ use Rattle.px_steps.specs.Causes.{IsStepCause, StepAnswers}
 use Rattle.px_steps.specs.Finds.{Finds, IsAccepted, Lacks, agg_faults, key_faults, misfit_fault, part_faults, part_frames, repeat_beside, typed_group_refusals, typed_key_refusals}
 use Rattle.px_document.specs.Form.{with_front}
 use Rattle.px_steps.specs.Meets.{IsFirst, unless_refused}
-use Rattle.px_steps.specs.Plain.{agg_refusals, aggregated_on, columns_on, first_of, frame_refusals, frames_by, greatest, grouped_kind, height_fault, key_on, key_refusals, key_values, named_value, no_key_refusal, refused_by, repeat_refusal, step_faults, step_refusals, value_on_part, group_frames, misfit_faults, with_columns}
+use Rattle.px_steps.specs.Plain.{agg_refusals, columns_on, first_of, frame_refusals, frames_by, greatest, height_fault, key_refusals, no_key_refusal, refused_by, repeat_refusal, step_faults, step_refusals, group_frames, misfit_faults, with_columns}
+use Rattle.px_tree.specs.Grouped.{aggregated_on, grouped_kind, key_on, key_values, named_value, value_on_part}
 use Rattle.px_tree.specs.Step.{group}
 use Rattle.px_steps.proofs.Columns.{all_true, and_then_some, heights_of_keys, keys_of_groups, names_of_keys, rows_of_groups}
 use Rattle.px_frame.proofs.LookLaws.{has_length}

@@ -19,7 +19,7 @@ use Rattle.px_tree.specs.declared.context.Context.{Context}
 use Rattle.px_tree.specs.declared.context.Context.TheVariants.{Default}
 use Rattle.px_steps.specs.Finds.{Finds, IsAccepted, Lacks, misfit_fault}
 use Rattle.px_steps.specs.Meets.{IsFirst, unless_refused}
-use Rattle.px_steps.specs.Plain.{named_value}
+use Rattle.px_tree.specs.Grouped.{named_value}
 use Rattle.px_steps.proofs.Selected.{cause_lacks, causes_told, cell_fits, lacks_swapped}
 
 -- where there is no refusal, memory was wanting

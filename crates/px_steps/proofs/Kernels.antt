@@ -12,7 +12,8 @@ use Rattle.px_frame.specs.Parts.{parts_of}
 use Rattle.px_tree.specs.Cost.{is_flat, ticks_of, windows_in}
 use Rattle.px_tree.specs.Step.{PlainStep, group}
 use Rattle.px_tree.specs.Tree.{Tree}
-use Rattle.px_steps.specs.Plain.{frames_by, group_costs, group_frames, groupings_in, kernels_in, key_on, most_kernels_in, most_kernels_of, step_on}
+use Rattle.px_steps.specs.Plain.{frames_by, group_costs, group_frames, groupings_in, kernels_in, most_kernels_in, most_kernels_of, step_on}
+use Rattle.px_tree.specs.Grouped.{key_on}
 
 -- a flat aggregation runs its kernels
 pub least_on_groups : (t : Tree) (n old new : ℕ) → RunExactly t old new → RunOnGroups t n old new → old + flat_kernels t ≤ new

@@ -32,7 +32,8 @@ use Rattle.px_tree.specs.declared.context.Context.TheVariants.{Default}
 use Rattle.px_steps.specs.Meets.{MeetsBy, IsFirst}
 use Rattle.px_steps.specs.Finds.{Lacks, misfit_fault}
 use Rattle.px_steps.specs.Causes.{IsStepCause, StepAnswers}
-use Rattle.px_steps.specs.Plain.{first_of, first_refusal, frame_refusals, greatest, named_value, misfit_faults, refused_by, repeat_refusal, step_on, step_refusals, uneven_fault, with_columns}
+use Rattle.px_steps.specs.Plain.{first_of, first_refusal, frame_refusals, greatest, misfit_faults, refused_by, repeat_refusal, step_on, step_refusals, uneven_fault, with_columns}
+use Rattle.px_tree.specs.Grouped.{named_value}
 use Rattle.px_tree.specs.Step.{PlainStep, select}
 use Rattle.px_expr.specs.NodeView.{plan_of}
 use Rattle.px_physical.specs.declared.phys_expr.PhysExpr.{PhysExpr}

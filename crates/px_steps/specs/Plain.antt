@@ -1,59 +1,32 @@
 -- What steps mean on plain frames, why they are refused, and the faults of their values.
-use Rattle.std.specs.Prelude.{◌≡◌, ℕ, ◌+◌, ◌^◌, ◌<◌, length, not, ◌==◌, List, [], ◌∷◌, ◌++◌, Option, Some, None, Result, Ok, Err, map, max, sum, option_map, if◌then◌else◌}
+use Rattle.std.specs.Prelude.{◌≡◌, ℕ, ◌+◌, ◌^◌, ◌<◌, length, not, ◌==◌, List, [], ◌∷◌, ◌++◌, Option, Some, None, Result, Ok, Err, map, max, sum, option_map}
 use Rattle.std.specs.List.{flat_map, filter_map, list_any, sum_by}
 use Rattle.std.specs.Option.{option_map_or}
 use Rattle.std.specs.Result.{result_ok}
-use Rattle.px_column.specs.Prelude.{Slot, Kind, lists, Series, slot_at}
+use Rattle.px_column.specs.Prelude.{lists, Series}
 use Rattle.px_column.specs.Operator.{is_boolean_kind}
 use Rattle.px_column.specs.Option.{◌>>=◌, each}
 use Rattle.px_value.specs.declared.error.PxError.{PxError}
 use Rattle.px_value.specs.declared.error.PxError.TheVariants.{Duplicate, InvalidOperation, ComputeError, ShapeMismatch, SchemaMismatch}
 use Rattle.px_value.specs.declared.error.InvalidWhy.TheVariants.{ListKey}
 use Rattle.px_value.specs.declared.error.ComputeWhy.TheVariants.{NoKey, NotPartitionSafe, ChunkLengths}
-use Rattle.px_frame.specs.Cell.{Cell, value_of_cell}
+use Rattle.px_frame.specs.Cell.{Cell}
 use Rattle.px_answers.specs.Counted.{costs_on, flat_kernels}
 use Rattle.px_frame.specs.External.{Frame, height, scope_of, rows_of_frame}
 use Rattle.px_frame.specs.Frame.{height_of, first_repeat, kept_series}
-use Rattle.px_frame.specs.Groups.{first_row}
 use Rattle.px_frame.specs.Parts.{parts_of}
 use Rattle.px_frame.specs.Schema.{column_field}
-use Rattle.px_frame.specs.Spread.{NamedCell, spread, spread_column, spread_all, rows_beside, assembled}
+use Rattle.px_frame.specs.Spread.{NamedCell, spread, spread_all, rows_beside, assembled}
 use Rattle.px_tree.specs.Cost.{cost_on, group_cost, windows_in}
+use Rattle.px_tree.specs.Grouped.{named_value, key_on, key_values, aggregated_on}
 use Rattle.px_tree.specs.Partition.{is_elementwise, is_partition_safe}
-use Rattle.px_tree.specs.Shape.{is_unit, name_of}
+use Rattle.px_tree.specs.Shape.{name_of}
 use Rattle.px_tree.specs.Size.{size_on}
 use Rattle.px_tree.specs.Tree.{Tree}
 use Rattle.px_tree.specs.Typing.{kind_in, refusals_of, refused_where, fails, not_list}
 use Rattle.px_tree.specs.Value.{value_on, named, faults_on, has_misfit}
 use Rattle.px_tree.specs.declared.context.Context.TheVariants.{Default, Aggregation}
 use Rattle.px_tree.specs.Step.{PlainStep, select, filter, group}
-
--- an expression's value, under its name and type
-abbrev pub named_value : Frame → Tree → Option NamedCell
-named_value frame e = value_on e frame >>= named e frame
-
--- a key as a column of the frame's height
-abbrev pub key_on : Frame → Tree → Option Series
-key_on frame e = named_value frame e >>= λ c. result_ok (spread_column (height frame) c)
-
--- a key's values, at the first row of each part
-abbrev pub key_values : List (List ℕ) → Series → Series
-key_values parts s = record s { slots = map (λ p. slot_at s.slots (first_row p)) parts }
-
--- the type of an aggregation's column: where it has a list of rows on a part, a list of them
-abbrev pub grouped_kind : Tree → Kind → Kind
-grouped_kind e k = if is_unit e then k else lists k
-
--- an aggregation's value on the frame of one part's rows alone
-abbrev pub value_on_part : Frame → Tree → List ℕ → Option Slot
-value_on_part frame e part = option_map value_of_cell (value_on e (rows_of_frame frame part))
-
--- an aggregation's column, with a row for each part
-abbrev pub aggregated_on : Frame → List (List ℕ) → Tree → Option Series
-aggregated_on frame parts e = do
-  k ← kind_in e (scope_of frame)
-  values ← each (value_on_part frame e) parts
-  Some (record { name = name_of e; kind = grouped_kind e k; slots = values })
 
 -- for each part of the frame by these key columns, the keys' values and then each aggregation's
 abbrev pub columns_on : Frame → List Tree → List Series → Option (List Series)

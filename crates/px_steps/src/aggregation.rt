@@ -8,7 +8,7 @@ ghost use Rattle.px_group_answers.specs.Counted.{RunOnGroups};
 ghost use Rattle.px_tree.specs.Size.{size_on};
 ghost use Rattle.px_tree.specs.declared.context.Context.TheVariants.{Aggregation};
 ghost use Rattle.px_steps.specs.Finds.{Finds, IsAccepted, agg_faults, node_tree, part_frames};
-ghost use Rattle.px_steps.specs.Plain.{aggregated_on};
+ghost use Rattle.px_tree.specs.Grouped.{aggregated_on};
 ghost use Rattle.px_window.specs.State.{beside};
 
 use px_column::{Column, Px, Steps};

@@ -14,7 +14,7 @@ ghost use Rattle.px_tree.specs.View.{tree};
 ghost use Rattle.px_tree.specs.declared.context.Context.TheVariants.{Default};
 ghost use Rattle.px_steps.specs.Finds.{Finds, IsAccepted, key_faults, node_tree, repeat_beside};
 ghost use Rattle.px_steps.specs.Meets.{Meets, MeetsBy};
-ghost use Rattle.px_steps.specs.Plain.{key_on};
+ghost use Rattle.px_tree.specs.Grouped.{key_on};
 ghost use Rattle.px_window.specs.State.{beside};
 
 use indexmap::IndexSet;

@@ -12,6 +12,7 @@ use Rattle.px_tree.specs.Shape.{is_single}
 use Rattle.px_tree.specs.Tree.{Tree, called, Trees, Order, no_trees, one_tree, no_order, ordered, column, literal, alias, binary, ternary, cast, function, filter, slice, gather, sort, sort_by, agg, window}
 use Rattle.px_tree.specs.Value.{named_on, order_on, parts_on}
 use Rattle.px_tree.specs.Window.{OrderCell, order_column}
+use Rattle.px_tree.specs.declared.window.WindowMapping.{WindowMapping}
 
 abbrev mutual
   -- evaluated on flat columns by one kernel a node: columns, single literals, aliases, operators, ternaries, functions of
@@ -95,20 +96,20 @@ pub record WindowKey : Type 0 where
   pub keys : List Series
   pub order : Option (Series × SortOptions)
 
--- a window's key, none where its columns or its order are refused
-abbrev pub key_where : Result (List Series) PxError → Result (Option (Series × SortOptions)) PxError → List WindowKey
-key_where (Ok by) (Ok o) = record { keys = by; order = o } ∷ []
-key_where _ _ = []
+-- a window's key and how its values are placed, none where its columns or its order are refused
+abbrev pub key_where : Result (List Series) PxError → Result (Option (Series × SortOptions)) PxError → WindowMapping → List (WindowKey × WindowMapping)
+key_where (Ok by) (Ok o) mapping = (record { keys = by; order = o }, mapping) ∷ []
+key_where _ _ mapping = []
 
--- the key of a window whose keys and order have values of the frame's height
-abbrev pub key_with : Option (List NamedCell) → Option OrderCell → ℕ → List WindowKey
-key_with (Some keys) (Some order) n = key_where (spread_all n keys) (order_column n order)
-key_with _ _ n = []
+-- the same of a window whose keys and order have values of the frame's height
+abbrev pub key_with : Option (List NamedCell) → Option OrderCell → ℕ → WindowMapping → List (WindowKey × WindowMapping)
+key_with (Some keys) (Some order) n mapping = key_where (spread_all n keys) (order_column n order) mapping
+key_with _ _ n mapping = []
 
 abbrev mutual
-  -- the keys of the windows in an expression, for steps that are evaluated in one branch. A window's function holds none,
-  -- since no window stands on groups
-  pub keys_on : Tree → Frame → List WindowKey
+  -- the keys of the windows in an expression, in the order in which they are evaluated, each beside how the window's values are
+  -- placed. A window's function holds none, since no window stands on groups
+  pub keys_on : Tree → Frame → List (WindowKey × WindowMapping)
   keys_on (alias e n) frame = keys_on e frame
   keys_on (binary l op r) frame = keys_on l frame ++ keys_on r frame
   keys_on (ternary p a b) frame = keys_on p frame ++ keys_on a frame ++ keys_on b frame
@@ -118,19 +119,19 @@ abbrev mutual
   keys_on (slice e offset length) frame = keys_on e frame ++ keys_on offset frame ++ keys_on length frame
   keys_on (gather e idx one) frame = keys_on e frame ++ keys_on idx frame
   keys_on (sort e options) frame = keys_on e frame
-  keys_on (sort_by e by options) frame = keys_on e frame ++ all_keys_on by frame
+  keys_on (sort_by e by options) frame = all_keys_on by frame ++ keys_on e frame
   keys_on (agg m e) frame = keys_on e frame
   keys_on (window f keys order mapping) frame =
-      all_keys_on keys frame ++ order_keys_on order frame ++ key_with (named_on keys frame) (order_on order frame) (height frame)
+      all_keys_on keys frame ++ order_keys_on order frame ++ key_with (named_on keys frame) (order_on order frame) (height frame) mapping
   keys_on _ frame = []
 
   -- the keys of the windows in some expressions
-  pub all_keys_on : Trees → Frame → List WindowKey
+  pub all_keys_on : Trees → Frame → List (WindowKey × WindowMapping)
   all_keys_on no_trees frame = []
   all_keys_on (one_tree t ts) frame = keys_on t frame ++ all_keys_on ts frame
 
   -- the keys of the windows in what an order is by
-  pub order_keys_on : Order → Frame → List WindowKey
+  pub order_keys_on : Order → Frame → List (WindowKey × WindowMapping)
   order_keys_on no_order frame = []
   order_keys_on (ordered t options) frame = keys_on t frame
 

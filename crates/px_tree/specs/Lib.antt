@@ -5,6 +5,7 @@ pub mod Typing
 pub mod Node
 pub mod Window
 pub mod Value
+pub mod Grouped
 pub mod Size
 pub mod Nodes
 pub mod Core

@@ -40,7 +40,6 @@ abbrev mutual
 -- reductions that can be merged
 abbrev pub is_merged_method : GroupByMethod → Bool
 is_merged_method NUnique = false
-is_merged_method (Count include_nulls) = include_nulls
 is_merged_method _ = true
 
 -- a length or such a reduction of an elementwise expression, under any aliases

@@ -17,7 +17,8 @@ use Rattle.px_tree.specs.Step.{group}
 use Rattle.px_tree.specs.Tree.{Tree, column}
 use Rattle.px_steps.specs.Meets.{Meets, unless_refused}
 use Rattle.px_steps.proofs.Named.{refuses_first, refuses_none}
-use Rattle.px_steps.specs.Plain.{agg_refusals, aggregated_on, columns_made, columns_on, key_on, key_refusals, key_values, no_key_refusal, repeat_refusal, step_refusals}
+use Rattle.px_steps.specs.Plain.{agg_refusals, columns_made, columns_on, key_refusals, no_key_refusal, repeat_refusal, step_refusals}
+use Rattle.px_tree.specs.Grouped.{aggregated_on, key_on, key_values}
 use Rattle.px_steps.proofs.GroupStep.{even_made, key_names, names_made}
 
 -- columns that are made of the parts

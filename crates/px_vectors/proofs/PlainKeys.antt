@@ -9,7 +9,8 @@ use Rattle.px_frame.specs.Schema.{FieldKind, column_field}
 use Rattle.px_frame.proofs.LookLaws.{field_look, has_length}
 use Rattle.px_tree.specs.Tree.{column}
 use Rattle.px_tree.specs.Typing.{kind_of_name, refused_where}
-use Rattle.px_steps.specs.Plain.{key_on, key_refusals}
+use Rattle.px_steps.specs.Plain.{key_refusals}
+use Rattle.px_tree.specs.Grouped.{key_on}
 
 module _ (frame : List Series) (n : List ℕ) where
   -- the type of a name

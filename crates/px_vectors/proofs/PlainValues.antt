@@ -24,7 +24,8 @@ use Rattle.px_tree.specs.Tree.{Tree, column, agg}
 use Rattle.px_steps.specs.Meets.{Meets, MeetsBy, unless_refused}
 use Rattle.px_steps.proofs.Named.{refuses_none}
 use Rattle.px_value.specs.declared.data_type.DataType.{DataType}
-use Rattle.px_steps.specs.Plain.{agg_refusals, aggregated_on, grouped_kind, key_values, value_on_part}
+use Rattle.px_steps.specs.Plain.{agg_refusals}
+use Rattle.px_tree.specs.Grouped.{aggregated_on, grouped_kind, key_values, value_on_part}
 use Rattle.px_vectors.specs.PlainStep.{tree_of, value_at_part}
 use Rattle.px_vectors.specs.declared.plain_step.Aggregation.{Aggregation}
 use Rattle.px_vectors.specs.declared.plain_step.Aggregation.TheVariants.{Sum as Sum_of, Len}

@@ -30,9 +30,9 @@ pub fn cost_examples()
     ensures window_cost { cost_on (over_k (sum_of x) GroupsToRows) four ≡ Some 4 }
     ensures ordered_cost { cost_on (window x (one_tree k no_trees) (ordered x falling) Explode) four ≡ Some 6 }
     ensures no_cost { cost_on (reversed x) four ≡ None }
-    // A window is grouped by its keys; an expression without windows by none.
+    // A window is grouped by its keys, and its values are placed as it says; an expression without windows has none.
     ensures window_keys { keys_on (over_k (sum_of x) GroupsToRows) four
-        ≡ record { keys = column_of (codes "k") int64s (nums (7 ∷ 9 ∷ 7 ∷ 7 ∷ [])) ∷ []; order = None } ∷ [] }
+        ≡ (record { keys = column_of (codes "k") int64s (nums (7 ∷ 9 ∷ 7 ∷ 7 ∷ [])) ∷ []; order = None }, GroupsToRows) ∷ [] }
     ensures no_keys { keys_on (sum_of x) four ≡ [] }
     // Rows are grouped once for each window, also for one in a key or an order of another.
     ensures two_windows { windows_in (binary (over_k (sum_of x) GroupsToRows) Plus (over_k x GroupsToRows)) ≡ 2 }

@@ -12,7 +12,7 @@ use Rattle.px_tree.specs.Size.{size_on}
 use Rattle.px_tree.specs.View.{tree}
 use Rattle.px_tree.specs.declared.context.Context.TheVariants.{Default}
 use Rattle.px_steps.specs.Finds.{Lacks, key_faults}
-use Rattle.px_steps.specs.Plain.{key_on}
+use Rattle.px_tree.specs.Grouped.{key_on}
 use Rattle.px_steps.proofs.Held.{ok_same}
 use Rattle.px_steps.proofs.Filtered.{lacks_cause, mask_accepted, mask_cause, mask_typed, rows_kept}
 use Rattle.px_steps.proofs.Grouping.{accepted_made}

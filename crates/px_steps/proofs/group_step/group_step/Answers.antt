@@ -11,7 +11,8 @@ use Rattle.px_tree.specs.View.{tree}
 use Rattle.px_tree.specs.declared.context.Context.TheVariants.{Aggregation, Default}
 use Rattle.px_window.specs.State.{beside}
 use Rattle.px_steps.specs.Finds.{Finds, Lacks, agg_faults, key_faults, part_frames}
-use Rattle.px_steps.specs.Plain.{columns_on, greatest, key_on}
+use Rattle.px_steps.specs.Plain.{columns_on, greatest}
+use Rattle.px_tree.specs.Grouped.{key_on}
 use Rattle.px_steps.proofs.Held.{ok_same}
 use Rattle.px_steps.proofs.GroupStep.{group_answer, key_cause, keys_fit, keys_typed, names_once, refusals_apart, some_column, step_accepted, step_first}
 use Rattle.px_steps.proofs.Kernels.{grouped_both, least_both, most_both, on_ok_so, within_both, within_first}

@@ -7,7 +7,7 @@ use Rattle.px_tree.specs.Cost.{windows_in}
 use Rattle.px_tree.specs.Size.{size_on}
 use Rattle.px_tree.specs.declared.context.Context.TheVariants.{Default}
 use Rattle.px_steps.specs.Finds.{key_faults, node_tree}
-use Rattle.px_steps.specs.Plain.{key_on}
+use Rattle.px_tree.specs.Grouped.{key_on}
 use Rattle.px_answers.proofs.Costs.{cost_end, cost_next}
 use Rattle.px_steps.proofs.Looped.{all_counted, all_least, all_made, front_start, none_found}
 use Rattle.px_steps.proofs.Members.{exactly_next, in_here, lacks_in, least_next, sound_next, values_next, within_here}

@@ -6,7 +6,7 @@ use Rattle.px_tree.specs.Cost.{windows_in}
 use Rattle.px_window.specs.State.{beside}
 use Rattle.px_steps.specs.Finds.{key_faults, node_tree}
 use Rattle.px_document.specs.Form.{with_front}
-use Rattle.px_steps.specs.Plain.{key_on}
+use Rattle.px_tree.specs.Grouped.{key_on}
 use Rattle.px_steps.proofs.group_step.key_columns.Given as goal
 
 abbrev pub invariant-loop-key : goal.invariant-loop-key

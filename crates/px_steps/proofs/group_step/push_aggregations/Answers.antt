@@ -8,7 +8,7 @@ use Rattle.px_tree.specs.Cost.{group_cost}
 use Rattle.px_tree.specs.Size.{size_on}
 use Rattle.px_tree.specs.declared.context.Context.TheVariants.{Aggregation}
 use Rattle.px_steps.specs.Finds.{agg_faults, node_tree, part_frames}
-use Rattle.px_steps.specs.Plain.{aggregated_on}
+use Rattle.px_tree.specs.Grouped.{aggregated_on}
 use Rattle.px_steps.proofs.Looped.{all_least, all_made, all_most, none_found}
 use Rattle.px_steps.proofs.Members.{in_here, lacks_in, least_next, most_next, sound_next, values_next}
 use Rattle.px_steps.proofs.Kernels.{least_on_groups}

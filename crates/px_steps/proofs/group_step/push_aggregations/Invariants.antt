@@ -6,7 +6,8 @@ use Rattle.px_window.specs.State.{beside}
 use Rattle.px_frame.specs.Groups.{rows_of}
 use Rattle.px_steps.specs.Finds.{agg_faults, node_tree}
 use Rattle.px_document.specs.Form.{with_front}
-use Rattle.px_steps.specs.Plain.{aggregated_on, group_costs}
+use Rattle.px_steps.specs.Plain.{group_costs}
+use Rattle.px_tree.specs.Grouped.{aggregated_on}
 use Rattle.px_steps.proofs.group_step.push_aggregations.Given as goal
 
 abbrev pub invariant-loop-node : goal.invariant-loop-node

@@ -2,7 +2,8 @@ use Rattle.std.proofs.Common.{◌≡◌, drop, map}
 use Rattle.std.specs.List.{flat_map}
 use Rattle.px_column.specs.Option.{each}
 use Rattle.px_frame.specs.External.{alone}
-use Rattle.px_steps.specs.Plain.{agg_refusals, aggregated_on}
+use Rattle.px_steps.specs.Plain.{agg_refusals}
+use Rattle.px_tree.specs.Grouped.{aggregated_on}
 use Rattle.px_document.specs.Form.{with_front}
 use Rattle.px_vectors.specs.PlainStep.{tree_of}
 use Rattle.px_vectors.proofs.plain_step.aggregate_columns.Given as goal

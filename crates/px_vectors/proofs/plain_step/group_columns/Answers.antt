@@ -4,7 +4,7 @@ use Rattle.px_frame.specs.Frame.{height_of}
 use Rattle.px_frame.specs.Parts.{parts_of}
 use Rattle.px_column.specs.Option.{each}
 use Rattle.px_frame.specs.External.{alone}
-use Rattle.px_steps.specs.Plain.{aggregated_on, key_values}
+use Rattle.px_tree.specs.Grouped.{aggregated_on, key_values}
 use Rattle.px_vectors.specs.PlainStep.{IsPart, tree_of}
 use Rattle.px_vectors.proofs.PlainAnswer.{columns_laid}
 use Rattle.px_vectors.proofs.PlainParts.{few_parts, are_parts}

@@ -3,7 +3,8 @@ use Rattle.std.specs.List.{flat_map}
 use Rattle.px_tree.specs.Tree.{column}
 use Rattle.px_column.specs.Option.{each}
 use Rattle.px_frame.specs.External.{alone}
-use Rattle.px_steps.specs.Plain.{key_on, key_refusals}
+use Rattle.px_steps.specs.Plain.{key_refusals}
+use Rattle.px_tree.specs.Grouped.{key_on}
 use Rattle.px_document.specs.Form.{with_front}
 use Rattle.px_vectors.proofs.plain_step.key_columns.Given as goal
 
