@@ -1,10 +1,10 @@
 //! Groups of rows (polars `GroupsType` and `GroupPositions`).
 ghost use Rattle.std.specs.Prelude.{◌≡◌, ◌<◌, ◌==◌, ◌^◌, Ok, IfOk, Some, length, map, slice_get, slice_index, true};
-ghost use Rattle.px_column.specs.Prelude.{AnswersBy};
+ghost use Rattle.px_column.specs.Prelude.{Answers, AnswersBy};
 ghost use Rattle.px_frame.specs.Frame.{are_below};
 ghost use Rattle.px_frame.specs.Groups.{is_group};
 ghost use Rattle.px_frame.specs.InOrder.{IsByFirst};
-ghost use Rattle.px_frame.specs.GroupsView.{all_end_within, all_rows_below};
+ghost use Rattle.px_frame.specs.GroupsView.{all_end_within, all_rows_below, idx_group};
 
 use px_column::{Px, PxError};
 use smallvec::SmallVec;
@@ -153,8 +153,33 @@ fn all_end_within(height: u32, slices: &[[u32; 2]]) -> bool
     true
 }
 
+/// Index groups with the same rows in lists of their own.
+fn copy_lists(alloc: Global, groups: &[(u32, IdxVec)]) -> Px<Vec<(u32, IdxVec)>>
+    ensures { AnswersBy (λ v. map idx_group v.items) result (Ok (map idx_group groups.now)) }
+{
+    let mut copies = Vec::with_capacity(alloc, groups.len())?;
+    for group in groups {
+        let rows = IdxVec::from_slice(alloc, group.1.as_slice())?;
+        copies.push((group.0, rows))?;
+    }
+    Ok(copies)
+}
+
 impl GroupsType {
     ghost use Rattle.px_frame.specs.GroupsView.{groups_of, is_within, lent_group};
+
+    /// The same groups, index lists and slices as they are.
+    fn try_clone(&self, alloc: Global) -> Px<GroupsType>
+        ensures { AnswersBy groups_of result (Ok (groups_of self.now)) }
+    {
+        match self {
+            GroupsType::Idx(groups) => Ok(GroupsType::Idx(copy_lists(alloc, groups)?)),
+            GroupsType::Slice { groups, rolling } => Ok(GroupsType::Slice {
+                groups: Vec::from_slice(alloc, groups)?,
+                rolling: *rolling,
+            }),
+        }
+    }
 
     fn is_within(&self, height: u32) -> bool
         ensures { result ≡ is_within height self.now }
@@ -257,6 +282,16 @@ impl GroupPositions {
     {
         let _height = self.height;
         self.groups.group(index)
+    }
+
+    /// Equal groups, which own copies of the lists and slices (polars `GroupsType::clone`).
+    pub fn try_clone(&self, alloc: Global) -> Px<GroupPositions>
+        ensures { Answers result (Ok self.now) }
+    {
+        Ok(GroupPositions {
+            groups: self.groups.try_clone(alloc)?,
+            height: self.height,
+        })
     }
 
     /// The same groups by their numbers `first`, those of one number in the order in which they stood
