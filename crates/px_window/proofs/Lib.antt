@@ -5,3 +5,4 @@ pub mod Laying
 pub mod Exploding
 pub mod Whole
 pub mod Caching
+pub mod SlotBySlot

@@ -4,3 +4,4 @@ pub mod StateLends
 pub mod Key
 pub mod Places
 pub mod Placed
+pub mod KeyDecided

@@ -1,7 +1,11 @@
 //! What the groups of windows are kept under.
-ghost use Rattle.std.specs.Prelude.{◌≡◌, option_map};
+ghost use Rattle.std.specs.Prelude.{◌≡◌, Ok, option_map};
+ghost use Rattle.px_column.specs.Prelude.{Answers, AnswersBy};
 
-use px_column::{Column, SortOptions};
+use crate::same::{hash_columns, hash_order, same_columns, same_order};
+use px_column::{Column, Px, SortOptions};
+use std::alloc::Global;
+use std::hash::{Hash, Hasher};
 use std::marker::Model;
 
 /// What windows of the same groups have in common (polars `CacheKey`): the branch of a plan, the columns
@@ -68,5 +72,80 @@ impl CacheKey {
             None => None,
             Some((column, options)) => Some((column, options)),
         }
+    }
+
+    /// An equal key, whose columns share their values.
+    pub fn try_clone(&self, alloc: Global) -> Px<CacheKey>
+        ensures { Answers result (Ok self.now) }
+    {
+        let keys = copy_columns(alloc, &self.keys)?;
+        let order = copy_order(alloc, &self.order)?;
+        Ok(CacheKey {
+            branch: self.branch,
+            keys,
+            order,
+        })
+    }
+}
+
+fn copy_columns(alloc: Global, columns: &[Column]) -> Px<Vec<Column>>
+    ensures { AnswersBy (λ v. v.items) result (Ok columns.now) }
+{
+    let mut copies = Vec::with_capacity(alloc, columns.len())?;
+    for column in columns {
+        copies.push(column.try_clone(alloc)?)?;
+    }
+    Ok(copies)
+}
+
+fn copy_order(
+    alloc: Global,
+    order: &Option<(Column, SortOptions)>,
+) -> Px<Option<(Column, SortOptions)>>
+    ensures { Answers result (Ok order.now) }
+{
+    match order {
+        None => Ok(None),
+        Some((column, options)) => Ok(Some((column.try_clone(alloc)?, *options))),
+    }
+}
+
+impl PartialEq for CacheKey {
+    ghost use Rattle.std.specs.Cmp as laws;
+    ghost use Rattle.px_value.specs.Decided.{IsEquivalence-decides};
+    ghost use Rattle.px_window.specs.Key.{key_eq};
+    ghost use Rattle.px_window.specs.KeyDecided.{key_decides};
+
+    ghost eq = { key_eq };
+
+    ghost laws = { laws.partial_equiv_from_equiv (IsEquivalence-decides key_decides) };
+
+    fn eq(&self, other: &CacheKey) -> bool {
+        self.branch == other.branch
+            && same_order(&self.order, &other.order)
+            && same_columns(&self.keys, &other.keys)
+    }
+}
+
+impl Eq for CacheKey {
+    ghost use Rattle.px_value.specs.Decided.{IsEquivalence-decides};
+    ghost use Rattle.px_window.specs.KeyDecided.{key_decides};
+
+    ghost laws = { IsEquivalence-decides key_decides };
+}
+
+impl Hash for CacheKey {
+    ghost use Rattle.std.specs.Hash as fed;
+    ghost use Rattle.px_window.specs.Key.{key_hash};
+    ghost use Rattle.px_window.specs.KeyDecided.{key_decides};
+
+    ghost hash_input = { key_hash };
+
+    ghost respects_eq = { (fed.same_Alike key_hash key_decides).fed };
+
+    fn hash<H: Hasher>(&self, state: &mut H) {
+        self.branch.hash(state);
+        hash_order(&self.order, state);
+        hash_columns(&self.keys, state);
     }
 }

@@ -7,6 +7,7 @@ mod key;
 mod ordering;
 mod places;
 mod placing;
+mod same;
 mod state;
 
 pub use cached_value::CachedValue;
