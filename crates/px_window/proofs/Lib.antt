@@ -6,3 +6,4 @@ pub mod Exploding
 pub mod Whole
 pub mod Caching
 pub mod SlotBySlot
+pub mod Entries

@@ -5,3 +5,4 @@ pub mod Key
 pub mod Places
 pub mod Placed
 pub mod KeyDecided
+pub mod Cache

@@ -13,10 +13,11 @@ use Rattle.px_value.specs.declared.error.PxError.TheVariants.{ComputeError}
 use Rattle.px_value.specs.declared.error.ComputeWhy.TheVariants.{Interrupted}
 use Rattle.px_window.specs.declared.cached_value.CachedValue.{CachedValue}
 use Rattle.px_window.specs.declared.flags.StateFlags.{StateFlags}
+use Rattle.px_window.specs.Cache.{Entries, coded_entries, no_entries}
 use Rattle.px_window.specs.Flags.{with_flag, verbose_bit, cache_window_bit}
 
--- the schema that is kept, the branch of a plan, the flags, the frames from outside, whether the evaluation is to stop, and
--- the frames that are cached, each under its key
+-- the schema that is kept, the branch of a plan, the flags, the frames from outside, whether the evaluation is to stop, the
+-- frames that are cached, each under its key, and what is kept of windows
 pub record State : Type 0 where
   pub schema_cache : Option (List FieldKind)
   pub branch_idx : ℕ
@@ -24,6 +25,7 @@ pub record State : Type 0 where
   pub ext_contexts : List (List Series)
   pub is_stopped : Bool
   pub df_cache : List (ℕ × CachedValue)
+  pub window_cache : Entries
 
 abbrev coded_flags : Coded StateFlags
 coded_flags = code_by ℕ coded_ℕ (λ f. f.0) (λ bits. record { 0 = bits }) (λ _. refl)
@@ -34,10 +36,10 @@ coded_cached = code_by (ℤ × Option (List Series)) (coded× coded_ℤ (coded_o
 -- states are told apart by their parts
 abbrev pub coded_state : Coded State
 coded_state =
-    code_by (Option (List FieldKind) × (ℕ × (StateFlags × (List (List Series) × (Bool × List (ℕ × CachedValue))))))
-    (coded× (coded_option (coded_list coded_field)) (coded× coded_ℕ (coded× coded_flags (coded× (coded_list (coded_list coded_series)) (coded× coded_bool (coded_list (coded× coded_ℕ coded_cached)))))))
-    (λ s. (s.schema_cache, (s.branch_idx, (s.flags, (s.ext_contexts, (s.is_stopped, s.df_cache))))))
-    (λ p. record { schema_cache = p.0; branch_idx = p.1.0; flags = p.1.1.0; ext_contexts = p.1.1.1.0; is_stopped = p.1.1.1.1.0; df_cache = p.1.1.1.1.1 }) (λ _. refl)
+    code_by (Option (List FieldKind) × (ℕ × (StateFlags × (List (List Series) × (Bool × (List (ℕ × CachedValue) × Entries))))))
+    (coded× (coded_option (coded_list coded_field)) (coded× coded_ℕ (coded× coded_flags (coded× (coded_list (coded_list coded_series)) (coded× coded_bool (coded× (coded_list (coded× coded_ℕ coded_cached)) coded_entries))))))
+    (λ s. (s.schema_cache, (s.branch_idx, (s.flags, (s.ext_contexts, (s.is_stopped, (s.df_cache, s.window_cache)))))))
+    (λ p. record { schema_cache = p.0; branch_idx = p.1.0; flags = p.1.1.0; ext_contexts = p.1.1.1.0; is_stopped = p.1.1.1.1.0; df_cache = p.1.1.1.1.1.0; window_cache = p.1.1.1.1.1.1 }) (λ _. refl)
 
 -- the state of a new evaluation
 abbrev pub new_state : Bool → State
@@ -48,6 +50,7 @@ new_state verbose = record {
   ext_contexts = [];
   is_stopped = false;
   df_cache = [];
+  window_cache = no_entries;
 }
 
 -- the columns of the frames from outside, one frame after another
@@ -89,3 +92,7 @@ place_of key cache = position_or_len (nat_eq key) (keys_of cache)
 -- a cache with this value at a place
 abbrev pub with_place : ℕ → CachedValue → List (ℕ × CachedValue) → List (ℕ × CachedValue)
 with_place place value cache = set_value_at cache place value
+
+-- a state but for what is kept of windows
+abbrev pub without_cache : State → State
+without_cache s = record s { window_cache = no_entries }

@@ -9,6 +9,7 @@ mod places;
 mod placing;
 mod same;
 mod state;
+mod window_cache;
 
 pub use cached_value::CachedValue;
 pub use flags::StateFlags;
@@ -17,3 +18,4 @@ pub use ordering::ordered_groups;
 pub use places::inverse_map;
 pub use placing::{place_explode, place_join, place_rows};
 pub use state::ExecutionState;
+pub use window_cache::{WindowCache, keep_groups, keep_map};

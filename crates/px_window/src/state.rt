@@ -4,10 +4,12 @@ ghost use Rattle.std.specs.Borrow.{sem};
 ghost use Rattle.px_column.specs.Prelude.{Answers, AnswersBy};
 ghost use Rattle.px_value.specs.declared.error.PxError.TheVariants.{OutOfMemory};
 ghost use Rattle.px_window.specs.Flags.{is_set, with_flag, without_flag, verbose_bit, cache_window_bit, has_window_bit};
-ghost use Rattle.px_window.specs.State.{new_state, unless_stopped, is_cached, cached_or_new, with_cached, without_cached, place_of};
+ghost use Rattle.px_window.specs.Cache.{no_entries};
+ghost use Rattle.px_window.specs.State.{new_state, without_cache, unless_stopped, is_cached, cached_or_new, with_cached, without_cached, place_of};
 
 use crate::cached_value::{CachedValue, copy_cache};
 use crate::flags::StateFlags;
+use crate::window_cache::WindowCache;
 use bitflags::Flags;
 use indexmap::IndexMap;
 use px_column::{ComputeWhy, Px, PxError};
@@ -16,8 +18,8 @@ use std::alloc::Global;
 use std::marker::Model;
 
 /// What an evaluation keeps beside the frame (polars `ExecutionState`), seen as the schema, the branch,
-/// the flags, the list of frames from outside, the mark to stop, and the list of keys with what is
-/// cached under them, in the order in which they came.
+/// the flags, the list of frames from outside, the mark to stop, the list of keys with what is cached under
+/// them, in the order in which they came, and what is kept of windows.
 pub struct ExecutionState {
     /// The schema of the frame that is evaluated next, where it is known.
     pub schema_cache: Option<SchemaRef>,
@@ -27,6 +29,8 @@ pub struct ExecutionState {
     pub flags: StateFlags,
     /// The frames from outside.
     pub ext_contexts: Vec<DataFrame>,
+    /// The groups that windows keep for each other.
+    pub window_cache: WindowCache,
     is_stopped: bool,
     df_cache: IndexMap<u64, CachedValue>,
 }
@@ -39,6 +43,7 @@ impl Drop for ExecutionState {
             branch_idx: _,
             flags: _,
             ext_contexts: _ext_contexts,
+            window_cache: _window_cache,
             is_stopped: _,
             df_cache: _df_cache,
         } = self;
@@ -60,6 +65,7 @@ impl Model for ExecutionState {
       ext_contexts = s.ext_contexts.items;
       is_stopped = s.is_stopped;
       df_cache = s.df_cache.entries;
+      window_cache = s.window_cache;
     } };
 }
 
@@ -99,34 +105,38 @@ impl ExecutionState {
             branch_idx: 0,
             flags,
             ext_contexts: Vec::new(alloc),
+            window_cache: WindowCache::new(alloc)?,
             is_stopped: false,
             df_cache: IndexMap::new(alloc),
         })
     }
 
-    /// An equal state, but with no schema kept; it owns copies of the frames, both those from outside and
-    /// those in the cache (polars `ExecutionState::split`).
+    /// An equal state, but with no schema and nothing of windows kept; it owns copies of the frames, both
+    /// those from outside and those in the cache (polars `ExecutionState::split`).
     pub fn split(&self, alloc: Global) -> Px<ExecutionState>
-        ensures { Answers result (Ok (record self.now { schema_cache = None })) }
+        ensures { Answers result (Ok (record self.now { schema_cache = None; window_cache = no_entries })) }
     {
         Ok(ExecutionState {
             schema_cache: None,
             branch_idx: self.branch_idx,
             flags: self.flags,
             ext_contexts: copy_frames(alloc, &self.ext_contexts)?,
+            window_cache: WindowCache::new(alloc)?,
             is_stopped: self.is_stopped,
             df_cache: copy_cache(alloc, &self.df_cache)?,
         })
     }
 
-    /// An equal state, which shares the schema, and owns copies of the frames (polars
-    /// `ExecutionState::clone`).
+    /// An equal state, which shares the schema, and owns copies of the frames and of what is kept of windows
+    /// (polars `ExecutionState::clone`).
     pub fn clone(&self, alloc: Global) -> Px<ExecutionState>
         ensures { Answers result (Ok self.now) }
     {
         let schema_cache = share_schema(&self.schema_cache)?;
+        let window_cache = self.window_cache.try_clone(alloc)?;
         let mut copy = self.split(alloc)?;
         copy.schema_cache = schema_cache;
+        copy.window_cache = window_cache;
         Ok(copy)
     }
 
@@ -149,6 +159,13 @@ impl ExecutionState {
         ensures { self.new ≡ record self.old { schema_cache = None } }
     {
         self.schema_cache = None;
+    }
+
+    /// Keeps nothing of windows from now on (polars `ExecutionState::clear_window_expr_cache`).
+    pub fn clear_window_expr_cache(&mut self)
+        ensures { self.new ≡ without_cache self.old }
+    {
+        self.window_cache.clear();
     }
 
     /// Whether windows keep the groups of their keys for each other.
