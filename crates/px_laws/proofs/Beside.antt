@@ -49,7 +49,7 @@ columns_at columns p (n ∷ names) = λ i. (ap is_some (look_at n columns p) ∙
 
 -- the type of such an expression
 mutual
-  kind_same : (e : Tree) (cs a b : List Series) → are_columns_of cs (leaf_names e) ≡ true → kind_in e (scope_of (beside cs a)) ≡ kind_in e (scope_of (beside cs b))
+  pub kind_same : (e : Tree) (cs a b : List Series) → are_columns_of cs (leaf_names e) ≡ true → kind_in e (scope_of (beside cs a)) ≡ kind_in e (scope_of (beside cs b))
   kind_same (column n) cs a b h = let k = (both (is_column_of cs n) true h).0 in kind_stays n cs a k ∙ sym (kind_stays n cs b k)
   kind_same (literal v) cs a b h = refl
   kind_same (alias e n) cs a b h = kind_same e cs a b h
@@ -69,7 +69,7 @@ mutual
   kind_same (window f keys order mapping) cs a b h =
       λ i. option_map (window_kind mapping (is_unit f)) (kind_same f cs a b (split cs (leaf_names f) (all_leaf_names keys ++ order_leaf_names order) h).0 i)
 
-  kinds_same : (es : Trees) (cs a b : List Series) → are_columns_of cs (all_leaf_names es) ≡ true → kinds_in es (scope_of (beside cs a)) ≡ kinds_in es (scope_of (beside cs b))
+  pub kinds_same : (es : Trees) (cs a b : List Series) → are_columns_of cs (all_leaf_names es) ≡ true → kinds_in es (scope_of (beside cs a)) ≡ kinds_in es (scope_of (beside cs b))
   kinds_same no_trees cs a b h = refl
   kinds_same (one_tree t ts) cs a b h =
       let s = split cs (leaf_names t) (all_leaf_names ts) h in

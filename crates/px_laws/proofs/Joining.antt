@@ -93,11 +93,11 @@ same_list n xs ys h = by (length xs == n) refl h
     by false e g = cc
 
 -- a list as long as the rows spreads
-spread_list : (n : ℕ) (xs : List Slot) → length xs ≡ n → spread n (rows xs) ≡ Ok xs
+pub spread_list : (n : ℕ) (xs : List Slot) → length xs ≡ n → spread n (rows xs) ≡ Ok xs
 spread_list n xs e = ap (λ b. cond b (Ok xs) (Err ShapeMismatch)) (let t : (length xs == n) ≡ true = grind (arith, nat_tests) in t)
 
 -- joined cells spread as each does
-spread_joins : (n m : ℕ) {a b : Cell} (xs ys : List Slot) → Alike a b → spread n a ≡ Ok xs → spread m b ≡ Ok ys → (spread (n + m) (joined a b) ≡ Ok (xs ++ ys)) × (length xs ≡ n)
+pub spread_joins : (n m : ℕ) {a b : Cell} (xs ys : List Slot) → Alike a b → spread n a ≡ Ok xs → spread m b ≡ Ok ys → (spread (n + m) (joined a b) ≡ Ok (xs ++ ys)) × (length xs ≡ n)
 spread_joins n m xs ys (same_unit s) h g =
     let e : replicate n s ≡ xs = cc in
     let f : replicate m s ≡ ys = cc in
@@ -215,7 +215,7 @@ before_parts (Ok None) (Ok ts) ds h = let e : ds ≡ absent ts = cc in (None, ts
 before_parts (Ok (Some d)) (Ok ts) ds h = let e : ds ≡ present d ts = cc in (Some d, ts, refl, refl, ap items e)
 
 -- a place before others is there where both are
-before_made : (s : Slot) (ts : Slots) → (gs : Slots) × (before (Ok s) (Ok ts) ≡ Ok gs) × (items gs ≡ s ∷ items ts)
+pub before_made : (s : Slot) (ts : Slots) → (gs : Slots) × (before (Ok s) (Ok ts) ≡ Ok gs) × (items gs ≡ s ∷ items ts)
 before_made None ts = (absent ts, refl, refl)
 before_made (Some d) ts = (present d ts, refl, refl)
 

@@ -20,6 +20,7 @@ use Rattle.px_frame.specs.Frame.{height_of, series_at}
 use Rattle.px_tree.specs.Node.{function_cell, reduction_cell}
 use Rattle.px_frame.specs.Cell.{is_unit_cell}
 use Rattle.px_tree.specs.Nodes.{leaf_names}
+use Rattle.px_tree.specs.Grouped.{value_on_part}
 use Rattle.px_tree.specs.Partition.{is_elementwise, are_elementwise, is_row_function, is_merged_method, inner_rows, merged_by}
 use Rattle.px_tree.specs.Shape.{is_unit, is_unit_first, are_units, is_literal_tree, are_literal_trees, has_implode}
 use Rattle.px_tree.specs.Tree.{Tree, called, by_name, Trees, no_trees, one_tree, column, literal, alias, binary, ternary, cast, function, filter, slice, gather, sort, sort_by, agg, len, window}
@@ -39,7 +40,7 @@ use Rattle.px_laws.proofs.Extremes.{kind_sort, is_slot_of, are_slots_of, like_ar
 use Rattle.px_laws.proofs.Typed.{frame_fits, value_like}
 use Rattle.px_laws.specs.Fitting.{has_fitting_columns, has_fitting_literals}
 use Rattle.std.proofs.lemmas.List.Folds.{list_all-append}
-use Rattle.px_laws.specs.Merge.{has_rows, are_parts, rows_of_parts, value_at, OnParts, is_extreme, PartsMerge}
+use Rattle.px_laws.specs.Merge.{has_rows, are_parts, rows_of_parts, OnParts, is_extreme, PartsMerge}
 use Rattle.px_value.proofs.EachLaws.{each_same, each_some}
 
 -- one cell comes from one tree
@@ -171,7 +172,7 @@ is_rows o c xs h e = h ∙ ap Some e
 
 -- on some rows, a reduction's value is that of its input's list
 reduced_at : (m : GroupByMethod) (e : Tree) (frame : Frame) (p : List ℕ) (j : Kind) (v : Slot) → is_elementwise e (scope_of frame) ≡ true → refusals_of (agg m e) (scope_of frame) Aggregation ≡ [] → kind_in e (scope_of frame) ≡ Some j
-    → value_at (agg m e) frame p ≡ Some v → (xs : List Slot) × (value_on e (rows_of_frame frame p) ≡ Some (rows xs)) × (reduced_value m j xs ≡ v)
+    → value_on_part frame (agg m e) p ≡ Some v → (xs : List Slot) × (value_on e (rows_of_frame frame p) ≡ Some (rows xs)) × (reduced_value m j xs ≡ v)
 reduced_at m e frame p j v w r kind h =
     let made_cell = mapped (value_on (agg m e) (rows_of_frame frame p)) value_of_cell v h in
     let k = made_bound (kind_in e (scope_of (rows_of_frame frame p))) _ made_cell.0 made_cell.1 in
@@ -184,18 +185,18 @@ reduced_at m e frame p j v w r kind h =
     (xs.0, is_rows _ c.0 xs.0 c.1 xs.1, value_is m j k.0 c.0 xs.0 made_cell.0 v ej xs.1 cell made_cell.2)
 
 -- and the other way round
-at_reduced : (m : GroupByMethod) (e : Tree) (frame : Frame) (p : List ℕ) (j : Kind) (xs : List Slot) → kind_in e (scope_of frame) ≡ Some j → value_on e (rows_of_frame frame p) ≡ Some (rows xs) → value_at (agg m e) frame p ≡ Some (reduced_value m j xs)
+at_reduced : (m : GroupByMethod) (e : Tree) (frame : Frame) (p : List ℕ) (j : Kind) (xs : List Slot) → kind_in e (scope_of frame) ≡ Some j → value_on e (rows_of_frame frame p) ≡ Some (rows xs) → value_on_part frame (agg m e) p ≡ Some (reduced_value m j xs)
 at_reduced m e frame p j xs kind h =
     let k = ap (kind_in e) (scope_of_rows frame p) ∙ kind in
     λ i. option_map value_of_cell (made (k i >>= λ t. h i >>= λ c. Some (Ok (reduction_cell m t c))))
 
 -- on each part
 reduced_on : (m : GroupByMethod) (e : Tree) (frame : Frame) (parts : List (List ℕ)) (j : Kind) (values : List Slot) → is_elementwise e (scope_of frame) ≡ true → refusals_of (agg m e) (scope_of frame) Aggregation ≡ [] → kind_in e (scope_of frame) ≡ Some j
-    → each (value_at (agg m e) frame) parts ≡ Some values → (xss : List (List Slot)) × ListsOn e frame parts xss × (map (reduced_value m j) xss ≡ values)
+    → each (value_on_part frame (agg m e)) parts ≡ Some values → (xss : List (List Slot)) × ListsOn e frame parts xss × (map (reduced_value m j) xss ≡ values)
 reduced_on m e frame [] j values w r kind h = ([], tt, cc)
 reduced_on m e frame (p ∷ parts) j values w r kind h =
-    let v = bound (value_at (agg m e) frame p) _ values h in
-    let vs = mapped (each (value_at (agg m e) frame) parts) (λ ys. v.0 ∷ ys) values v.2 in
+    let v = bound (value_on_part frame (agg m e) p) _ values h in
+    let vs = mapped (each (value_on_part frame (agg m e)) parts) (λ ys. v.0 ∷ ys) values v.2 in
     let xs = reduced_at m e frame p j v.0 w r kind v.1 in
     let xss = reduced_on m e frame parts j vs.0 w r kind vs.1 in
     (xs.0 ∷ xss.0, (xs.1, xss.1), (λ i. xs.2 i ∷ xss.2 i) ∙ vs.2)
@@ -343,7 +344,7 @@ method_merges (Count false) j k xss w x kind some short =
 method_merges Implode j k xss w x kind some short = ap (λ ys. Some (list (slots (Some (list (slots ys)) ∷ [])))) (sym (inner_of_lists j xss))
 
 -- the rows of a frame of some rows: none, or as many as these
-height_joins : (frame : Frame) (p q : List ℕ) → height (rows_of_frame frame (p ++ q)) ≡ height (rows_of_frame frame p) + height (rows_of_frame frame q)
+pub height_joins : (frame : Frame) (p q : List ℕ) → height (rows_of_frame frame (p ++ q)) ≡ height (rows_of_frame frame p) + height (rows_of_frame frame q)
 height_joins frame p q = by frame.columns
   where
     by : (columns : List Series) → height_of (map (series_at (p ++ q)) columns) ≡ height_of (map (series_at p) columns) + height_of (map (series_at q) columns)
@@ -389,14 +390,14 @@ agg_merges m e frame k parts x on values h =
     ∙ ap Some (method_merges m j.0 k lists.0 safe.0 x j.2 there short ∙ ap (merged_by m k) lists.2)
 
 -- an alias has the value of what it names
-under_alias : (e : Tree) (n : List ℕ) (frame : Frame) (p : List ℕ) → value_at (alias e n) frame p ≡ value_at e frame p
+under_alias : (e : Tree) (n : List ℕ) (frame : Frame) (p : List ℕ) → value_on_part frame (alias e n) p ≡ value_on_part frame e p
 under_alias e n frame p = ap (option_map value_of_cell) (under_name (value_on e (rows_of_frame frame p)))
 
 -- for each such expression but the least and the greatest value
 pub parts_merge : (e : Tree) (frame : Frame) (k : Kind) (parts : List (List ℕ)) → is_extreme e ≡ false → OnParts e frame k parts → PartsMerge e frame k parts
 parts_merge (alias e n) frame k parts x on values h =
     under_alias e n frame (rows_of_parts parts)
-    ∙ parts_merge e frame k parts x (record { safe = on.safe; accepted = on.accepted; even = on.even; kind = on.kind; some = on.some; short = on.short }) values (sym (each_same (value_at (alias e n) frame) (value_at e frame) parts (under_alias e n frame)) ∙ h)
+    ∙ parts_merge e frame k parts x (record { safe = on.safe; accepted = on.accepted; even = on.even; kind = on.kind; some = on.some; short = on.short }) values (sym (each_same (value_on_part frame (alias e n)) (value_on_part frame e) parts (under_alias e n frame)) ∙ h)
 parts_merge (agg Min e) frame k parts x on values h = cc
 parts_merge (agg Max e) frame k parts x on values h = cc
 parts_merge (agg Sum e) frame k parts x on values h = agg_merges Sum e frame k parts refl on values h
@@ -473,7 +474,7 @@ extreme_agg m e frame k parts x fit lits on values h =
 pub typed_parts_merge : (e : Tree) (frame : Frame) (k : Kind) (parts : List (List ℕ)) → has_fitting_columns frame ≡ true → has_fitting_literals e ≡ true → OnParts e frame k parts → PartsMerge e frame k parts
 typed_parts_merge (alias e n) frame k parts fit lits on values h =
     under_alias e n frame (rows_of_parts parts)
-    ∙ typed_parts_merge e frame k parts fit lits (record { safe = on.safe; accepted = on.accepted; even = on.even; kind = on.kind; some = on.some; short = on.short }) values (sym (each_same (value_at (alias e n) frame) (value_at e frame) parts (under_alias e n frame)) ∙ h)
+    ∙ typed_parts_merge e frame k parts fit lits (record { safe = on.safe; accepted = on.accepted; even = on.even; kind = on.kind; some = on.some; short = on.short }) values (sym (each_same (value_on_part frame (alias e n)) (value_on_part frame e) parts (under_alias e n frame)) ∙ h)
 typed_parts_merge (agg Min e) frame k parts fit lits on values h = extreme_agg Min e frame k parts refl fit lits on values h
 typed_parts_merge (agg Max e) frame k parts fit lits on values h = extreme_agg Max e frame k parts refl fit lits on values h
 typed_parts_merge (agg Sum e) frame k parts fit lits on values h = agg_merges Sum e frame k parts refl on values h

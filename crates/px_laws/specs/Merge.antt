@@ -1,15 +1,15 @@
 -- Parts of a frame's rows, an expression's values on them, and what they are merged to.
-use Rattle.std.specs.Prelude.{◌≡◌, ℕ, ◌^◌, ◌<◌, Bool, true, false, List, [], ◌∷◌, Option, Some, option_map, length}
+use Rattle.std.specs.Prelude.{◌≡◌, ℕ, ◌^◌, ◌<◌, Bool, true, false, List, [], ◌∷◌, Some, length}
 use Rattle.std.specs.List.{flat_map, list_all}
 use Rattle.px_column.specs.Prelude.{Slot, Kind}
 use Rattle.px_column.specs.Option.{each}
 use Rattle.px_value.specs.declared.method.GroupByMethod.TheVariants.{Min, Max}
-use Rattle.px_frame.specs.Cell.{value_of_cell}
-use Rattle.px_frame.specs.External.{Frame, scope_of, rows_of_frame}
+use Rattle.px_frame.specs.External.{Frame, scope_of}
+use Rattle.px_tree.specs.Grouped.{value_on_part}
 use Rattle.px_tree.specs.Partition.{is_partition_safe, merged}
 use Rattle.px_tree.specs.Tree.{Tree, alias, agg}
 use Rattle.px_tree.specs.Typing.{kind_in, refusals_of}
-use Rattle.px_tree.specs.Value.{value_on, has_misfit}
+use Rattle.px_tree.specs.Value.{has_misfit}
 use Rattle.px_tree.specs.declared.context.Context.TheVariants.{Aggregation}
 
 -- a part that has rows
@@ -25,10 +25,6 @@ are_parts (p ∷ parts) = list_all has_rows (p ∷ parts)
 -- the rows of all parts, in their order
 abbrev pub rows_of_parts : List (List ℕ) → List ℕ
 rows_of_parts parts = flat_map (λ p. p) parts
-
--- an expression's value on some rows of a frame, as one place
-abbrev pub value_at : Tree → Frame → List ℕ → Option Slot
-value_at e frame p = option_map value_of_cell (value_on e (rows_of_frame frame p))
 
 -- an expression of type k that is evaluated on parts of a frame: it is partition safe and not refused on groups, names no
 -- column beside the frame of another height, and all rows together are fewer than 2^32
@@ -49,4 +45,4 @@ is_extreme _ = false
 
 -- where there is a value on each part, these values merged are the value on all rows
 abbrev pub PartsMerge : Tree → Frame → Kind → List (List ℕ) → Type 0
-PartsMerge e frame k parts = (values : List Slot) → each (value_at e frame) parts ≡ Some values → value_at e frame (rows_of_parts parts) ≡ Some (merged e k values)
+PartsMerge e frame k parts = (values : List Slot) → each (value_on_part frame e) parts ≡ Some values → value_on_part frame e (rows_of_parts parts) ≡ Some (merged e k values)

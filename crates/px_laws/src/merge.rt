@@ -9,7 +9,7 @@ ghost use Rattle.px_tree.specs.View.{tree};
 use px_tree::Expr;
 
 /// The values of a partition safe expression on parts of a frame's rows, merged, are its value on the rows of
-/// all parts: a sum, a count with nulls, a length, a first or last value or an Implode whatever the frame
+/// all parts: a sum, a count, a length, a first or last value or an Implode whatever the frame
 /// holds, and a least or greatest value, too, where columns and literals fit their types. Each part has rows,
 /// and they are fewer than 2^32 in all.
 #[tactic(auto, using(crate::proofs::Merging::parts_merge, crate::proofs::Merging::typed_parts_merge))]
