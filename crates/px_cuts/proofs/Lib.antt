@@ -1,0 +1,11 @@
+pub mod Cut
+pub mod Merged
+pub mod Keys
+pub mod Chunked
+pub mod KeyColumns
+pub mod Whole
+pub mod Splits
+pub mod FaultsJoined
+pub mod Partials
+pub mod Alone
+pub mod RowsCounted
