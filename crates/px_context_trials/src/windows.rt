@@ -52,7 +52,7 @@ fn in_falling_order(alloc: Global) -> Px<GroupPositions>
 }
 
 // Whether a group has this number `first` and these rows.
-fn has_group(groups: &GroupPositions, index: u32, first: u32, rows: &[u32]) -> bool {
+pub(crate) fn has_group(groups: &GroupPositions, index: u32, first: u32, rows: &[u32]) -> bool {
     if index >= groups.len() {
         return false;
     }
