@@ -10,9 +10,7 @@ use crate::windows::has_group;
 use px_column::{Column, Name, Px, PxError, SortOptions, Steps};
 use px_frame::{GroupPositions, GroupsIndicator};
 use px_trial_texts::column;
-use px_window::{
-    CacheKey, ExecutionState, WindowCache, inverse_map, keep_groups, keep_map, ordered_groups,
-};
+use px_window::{CacheKey, ExecutionState, WindowCache, keep_groups, keep_map};
 use std::alloc::Global;
 use std::marker::Brand;
 use std::sync::ledger::{Blank, Ledger};
@@ -101,32 +99,17 @@ fn kept(alloc: Global, keys: &[CacheKey]) -> Px<WindowCache> {
     keep_all::<Brand, Brand>(alloc, keys, Blank::new(1), Blank::new(1))
 }
 
-fn put_all<L: Ledger, M: Ledger>(
-    alloc: Global,
-    key: &CacheKey,
-    kernels: Blank,
-    groupings: Blank,
-) -> Px<WindowCache>
-    requires kernel_name { kernels.name ≡ L.name }
-    requires kernel_parts { kernels.parts ≡ L.parts }
-    requires some_kernel { 0 < kernels.parts }
-    requires grouping_name { groupings.name ≡ M.name }
-    requires grouping_parts { groupings.parts ≡ M.parts }
-    requires some_grouping { 0 < groupings.parts }
-{
-    let mut kernels = Steps::<L>::new(kernels);
-    let mut groupings = Steps::<M>::new(groupings);
-    let mut cache = WindowCache::new(alloc)?;
-    let groups = ordered_groups(alloc, 4, key, &mut kernels, &mut groupings)?;
-    let map = inverse_map(alloc, &groups)?;
-    cache.insert_groups(key.try_clone(alloc)?, groups)?;
-    cache.insert_map(key.try_clone(alloc)?, map)?;
-    Ok(cache)
-}
-
-// A cache that the groups and the places of a key are put into.
+// A cache that what another keeps under a key is put into.
 fn put(alloc: Global, key: &CacheKey) -> Px<WindowCache> {
-    put_all::<Brand, Brand>(alloc, key, Blank::new(1), Blank::new(1))
+    let from = kept(alloc, &[key.try_clone(alloc)?])?;
+    let mut cache = WindowCache::new(alloc)?;
+    if let Some(groups) = from.get_groups(key) {
+        cache.insert_groups(key.try_clone(alloc)?, groups.try_clone(alloc)?)?;
+    }
+    if let Some(places) = from.get_map(key) {
+        cache.insert_map(key.try_clone(alloc)?, Vec::from_slice(alloc, places)?)?;
+    }
+    Ok(cache)
 }
 
 // Whether groups are the rows 0, 2 and 3, in an order, and the row 1.
@@ -222,12 +205,15 @@ fn entries_are_put_in_and_copied_and_let_go(rt: HostRuntime) -> Result<(), Fail>
     Ok(())
 }
 
-// Whether a copy of slices is of the same slice.
+// Whether groups are the slice of two rows from the row 1 on.
 fn is_slice(groups: &GroupPositions) -> bool {
     if groups.len() != 1 {
         return false;
     }
-    matches!(groups.group(0), GroupsIndicator::Slice([1, 2]))
+    let GroupsIndicator::Slice(range) = groups.group(0) else {
+        return false;
+    };
+    range[0] == 1 && range[1] == 2
 }
 
 #[test]
